@@ -1,0 +1,5 @@
+pub use Rattle.fp_base.specs.Files
+pub use Rattle.fp_base.specs.Faults
+pub mod Words
+pub mod Numbers
+pub mod Reading
