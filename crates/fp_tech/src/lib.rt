@@ -1,0 +1,8 @@
+//! Technologies, the two dies with their rows, and the grid of slots for terminals.
+#![tactic(auto)]
+
+mod dies;
+mod fault;
+
+pub use dies::{DieSpec, DiesFault, Frame, Segment, TermSpec};
+pub use fault::BuildFault;
