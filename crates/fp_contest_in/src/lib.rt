@@ -1,0 +1,6 @@
+//! The reader of contest input files.
+#![tactic(auto)]
+
+mod section;
+
+pub use section::Section;
