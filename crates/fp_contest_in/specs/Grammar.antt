@@ -1,6 +1,6 @@
 -- The grammar of the input file, as a relation between a problem and the tokens that spell it: each statement
 -- takes the first words, and the rest follow.
-use Rattle.std.specs.Prelude.{◌≡◌, ℕ, ◌+◌, ◌^◌, Bool, true, false, ◌||◌, ◌==◌, List, [], ◌∷◌, ◌++◌, length, Some, slice_get, codes}
+use Rattle.std.specs.Prelude.{◌≡◌, ℕ, ◌+◌, ◌^◌, Bool, true, false, ◌==◌, if◌then◌else◌, List, [], ◌∷◌, ◌++◌, length, Some, slice_get, codes}
 use Rattle.fp_base.specs.declared.ids.Die.{Die}
 use Rattle.fp_base.specs.declared.ids.Die.TheVariants.{Top, Bottom}
 use Rattle.fp_text.specs.Words.{Word, words_of}
@@ -140,7 +140,7 @@ section_number TerminalSpacing = 8
 
 abbrev pub is_in : Section → List Section → Bool
 is_in section [] = false
-is_in section (first ∷ others) = (section_number first == section_number section) || is_in section others
+is_in section (first ∷ others) = if section_number first == section_number section then true else is_in section others
 
 -- no section stands among those before it
 abbrev pub AreOnce : List Section → List Section → Type 0

@@ -108,6 +108,18 @@ has_section found (Tech die) = is_some (die_found found die).tech
 has_section found TerminalSize = is_some found.size
 has_section found TerminalSpacing = is_some found.spacing
 
+-- which of the nine were read, in the usual order, and how many
+abbrev pub bits : Found → List Bool
+bits found = is_some found.frame ∷ is_some found.top.percent ∷ is_some found.bottom.percent ∷ is_some found.top.rows ∷ is_some found.bottom.rows
+    ∷ is_some found.top.tech ∷ is_some found.bottom.tech ∷ is_some found.size ∷ is_some found.spacing ∷ []
+
+unfoldable pub count_true : List Bool → ℕ
+count_true [] = 0
+count_true (bit ∷ others) = (if bit then 1 else 0) + count_true others
+
+abbrev pub found_count : Found → ℕ
+found_count found = count_true (bits found)
+
 unfoldable pub frame_next : Left → Read Frame
 frame_next l = do
   llx ← number_next 0 most_number kinds.Range l

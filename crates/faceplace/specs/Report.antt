@@ -1,0 +1,63 @@
+-- The texts that the program prints, and the text of an output file.
+use Rattle.std.specs.Prelude.{◌≡◌, ℕ, ◌^◌, ◌<◌, ◌≤◌, List, [], ◌∷◌, ◌++◌, length, Option, Some, None, codes, decimal}
+use Rattle.fp_text.specs.declared.fault.Kind.{Kind}
+use Rattle.fp_text.specs.declared.fault.Kind.TheVariants.{Ended, Word, Number, Name, Twice, Unknown, Range, Rows, Limit, Trailing}
+use Rattle.fp_text.specs.Reading.{fault}
+use Rattle.fp_contest_in.specs.Text.{ProblemText}
+use Rattle.fp_contest_in.specs.Statements.{problem_of}
+
+-- the greatest length of an input file
+abbrev pub most_input : ℕ
+most_input = 2 ^ 28
+
+-- why an input file is refused: the name is not held, it holds too many bytes, or its first fault
+pub data Cause : Type 0 where
+  IsMissing : Cause
+  IsLong : Cause
+  IsWrong : ℕ → Kind → Cause
+
+-- the cause is that of what the name holds
+abbrev pub HasCause : Option (List ℕ) → Cause → Type 0
+HasCause None IsMissing = Unit {0}
+HasCause None IsLong = ⊥
+HasCause None (IsWrong at kind) = ⊥
+HasCause (Some bytes) IsMissing = ⊥
+HasCause (Some bytes) IsLong = most_input < length bytes
+HasCause (Some bytes) (IsWrong at kind) = (length bytes ≤ most_input) × (problem_of bytes ≡ fault at kind)
+
+abbrev pub kind_text : Kind → List ℕ
+kind_text Ended = codes "ended"
+kind_text Word = codes "word"
+kind_text Number = codes "number"
+kind_text Name = codes "name"
+kind_text Twice = codes "twice"
+kind_text Unknown = codes "unknown"
+kind_text Range = codes "range"
+kind_text Rows = codes "rows"
+kind_text Limit = codes "limit"
+kind_text Trailing = codes "trailing"
+
+abbrev pub cause_text : Cause → List ℕ
+cause_text IsMissing = codes "0 missing"
+cause_text IsLong = codes "268435456 long"
+cause_text (IsWrong at kind) = decimal at ++ codes " " ++ kind_text kind
+
+-- a line feed
+abbrev pub line_end : List ℕ
+line_end = 10 ∷ []
+
+-- the words are no request
+abbrev pub words_report : List ℕ
+words_report = codes "words" ++ line_end
+
+-- `input NAME AT KIND`
+abbrev pub input_report : List ℕ → Cause → List ℕ
+input_report name cause = codes "input " ++ name ++ codes " " ++ cause_text cause ++ line_end
+
+-- the seed of a problem without cells and nets, over so many slots
+abbrev pub seed_report : ℕ → List ℕ
+seed_report slots = codes "seed 0 first top cut 0 slots " ++ decimal slots ++ line_end
+
+-- the output file of a placement without cells and terminals
+abbrev pub no_cells_text : List ℕ
+no_cells_text = codes "TopDiePlacement 0" ++ line_end ++ codes "BottomDiePlacement 0" ++ line_end ++ codes "NumTerminals 0" ++ line_end

@@ -1,0 +1,4 @@
+//! The program `faceplace`.
+#![tactic(auto)]
+
+fn main() {}

@@ -1,0 +1,4 @@
+pub mod Taken
+pub mod Techs
+pub mod Bits
+pub mod Names
