@@ -1,8 +1,9 @@
 //! The tokens of a text, one after the other, and what a grammar asks of the next one.
 
 ghost use Rattle.std.specs.Prelude.{◌≡◌, ◌≤◌, ◌<◌, ◌≢◌, ℕ, length, slice_index, slice_range, IfSome, IsErrOf};
+ghost use Rattle.std.specs.List.{list_all};
 ghost use Rattle.fp_text.specs.Words.{is_blank, IsToken, AreTokens};
-ghost use Rattle.fp_text.specs.Numbers.{is_name};
+ghost use Rattle.fp_text.specs.Numbers.{is_name, is_name_byte};
 ghost use Rattle.fp_text.specs.Reading.{Ends, whole, Gives, word_next, keyword_next, name_next, number_next, end_next};
 ghost use Rattle.fp_text.specs.Cursor.{Advances, word_at, word_of};
 
@@ -35,7 +36,7 @@ pub struct Tokens<'a> {
 impl<'a> Model for Tokens<'a> {
     ghost use Rattle.std.specs.Prelude.{◌≤◌, length, drop};
     ghost use Rattle.fp_text.specs.Words.{words_from, IsEdge};
-    ghost use Rattle.fp_text.specs.Numbers.{is_name};
+    ghost use Rattle.fp_text.specs.Numbers.{is_name, is_name_byte};
 ghost use Rattle.fp_text.specs.Reading.{Ends, Left};
 
     ghost Value = { Left };
@@ -184,5 +185,11 @@ impl<'a> Tokens<'a> {
 fn is_name(token: &[u8]) -> bool
     ensures { result ≡ is_name token.now }
 {
-    !token.is_empty() && token.len() <= 255 && token.iter().all(|byte| 33 <= *byte && *byte <= 126)
+    !token.is_empty() && token.len() <= 255 && are_name_bytes(token)
+}
+
+fn are_name_bytes(token: &[u8]) -> bool
+    ensures { result ≡ list_all is_name_byte token.now }
+{
+    token.iter().all(|byte| 33 <= *byte && *byte <= 126)
 }
