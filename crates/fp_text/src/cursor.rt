@@ -8,7 +8,11 @@ ghost use Rattle.fp_text.specs.Reading.{Ends, whole, Gives, word_next, keyword_n
 ghost use Rattle.fp_text.specs.Cursor.{Advances, word_at, word_of};
 
 use crate::fault::{Kind, TextFault};
+use crate::numbers::number;
 use std::marker::Model;
+
+/// The greatest number of a text.
+const GREATEST: u64 = 1 << 30;
 
 /// The place of a token in its source: from `start` up to but not with `end`, in bytes from 0.
 #[derive(Clone, Copy, Debug, PartialEq, Eq)]
@@ -162,6 +166,22 @@ impl<'a> Tokens<'a> {
                 at: word.at,
                 kind: Kind::Name,
             })
+        }
+    }
+
+    /// The next token, which must be a number from `least` to `most`. `Number` there where it is none or
+    /// above 2^30, else `Range` where it is below `least`, and the kind `above` where it is above `most`.
+    #[tactic(auto, unfolding(crate::specs::Reading::number_next))]
+    pub fn number(&mut self, least: u64, most: u64, above: Kind) -> Result<u64, TextFault>
+        ensures gives { Gives (λ n. n) result self.new (number_next least most above self.old) }
+        ensures memory { IsErrOf result TextFault.Memory → ⊥ }
+    {
+        let word = self.word()?;
+        match number(word.text, GREATEST) {
+            Err(_) => Err(TextFault::Wrong { at: word.at, kind: Kind::Number }),
+            Ok(value) if value < least => Err(TextFault::Wrong { at: word.at, kind: Kind::Range }),
+            Ok(value) if most < value => Err(TextFault::Wrong { at: word.at, kind: above }),
+            Ok(value) => Ok(value),
         }
     }
 

@@ -3,8 +3,8 @@
 
 mod cursor;
 mod fault;
-mod number;
+mod numbers;
 
 pub use cursor::{Token, Tokens, Word};
 pub use fault::{Kind, TextFault};
-pub use number::NumberFault;
+pub use numbers::{NumberFault, number, signed};
