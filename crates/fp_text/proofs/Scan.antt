@@ -37,14 +37,13 @@ pub one_left : (bytes : List ℕ) (from start end : ℕ) (old : Left) → Ran by
 one_left bytes from start end old blanks word other view =
     let bytes_is : bytes ≡ old.bytes = ap (λ (l : Left). l.bytes) view in
     let le : start ≤ end = word.behind in
-    let lt : start < end = omega arith in
-    (
-        ap (λ (l : Left). l.words) (sym view)
-        ∙ words-skipped bytes from start blanks.behind blanks.within blanks.run
-        ∙ words-found bytes start end lt word.within word.run (λ h. true_from_ne_false _ (word.stops h))
-        ∙ ap (λ (b : List ℕ). record { at = start; text = slice_range b start end } ∷ words_from end (drop end bytes)) bytes_is,
-        lt,
-        let within : end ≤ length bytes = word.within in rw (← bytes_is) within,
+    let lt : start < end = omega arith in (
+      ap (λ (l : Left). l.words) (sym view)
+          ∙ words-skipped bytes from start blanks.behind blanks.within blanks.run
+          ∙ words-found bytes start end lt word.within word.run (λ h. true_from_ne_false _ (word.stops h))
+          ∙ ap (λ (b : List ℕ). record { at = start; text = slice_range b start end } ∷ words_from end (drop end bytes)) bytes_is,
+      lt,
+      let within : end ≤ length bytes = word.within in rw (← bytes_is) within,
     )
 
 pub token_left : (bytes : List ℕ) (from start end : ℕ) (old : Left) → IsEdge bytes from → Ran bytes from start true → Ran bytes start end false → start ≢ end

@@ -5,3 +5,4 @@ pub mod WordsLaws
 pub mod Numbers
 pub mod Reading
 pub mod Cursor
+pub mod ReadingLaws

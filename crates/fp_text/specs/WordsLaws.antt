@@ -156,16 +156,16 @@ longer from to bytes blank all i le lt =
 cut-blank : (from : ℕ) (bytes : List ℕ) (words : List Word) → is_blank (slice_index bytes from) ≡ true → Cut (from + 1) bytes words → Cut from bytes words
 cut-blank from bytes [] blank cut = longer from (length bytes) bytes blank cut
 cut-blank from bytes (word ∷ words) blank cut = (
-    record {
-      begins = let le : from + 1 ≤ word.at = cut.0.begins in omega arith;
-      blanks = longer from word.at bytes blank cut.0.blanks;
-      not_empty = cut.0.not_empty;
-      within = cut.0.within;
-      stands = cut.0.stands;
-      no_blank = cut.0.no_blank;
-      behind = cut.0.behind;
-    },
-    cut.1,
+  record {
+    begins = let le : from + 1 ≤ word.at = cut.0.begins in omega arith;
+    blanks = longer from word.at bytes blank cut.0.blanks;
+    not_empty = cut.0.not_empty;
+    within = cut.0.within;
+    stands = cut.0.stands;
+    no_blank = cut.0.no_blank;
+    behind = cut.0.behind;
+  },
+  cut.1,
 )
 
 -- what a cut rest of the bytes says of them
@@ -204,8 +204,8 @@ cut-begun from byte rest bytes (word ∷ words) stands blank cut =
     elim (cases_eq word.at (from + 1)) [
       | inl same ↦
           let text : byte ∷ word.text ≡ take (suc (length word.text)) (drop from bytes) =
-              ap (λ (l : List ℕ). byte ∷ l) (cut.0.stands ∙ ap (take (length word.text)) (ap (λ n. drop n bytes) same ∙ rest_at from byte rest bytes stands))
-              ∙ ap (take (suc (length word.text))) (sym stands) in
+          ap (λ (l : List ℕ). byte ∷ l) (cut.0.stands ∙ ap (take (length word.text)) (ap (λ n. drop n bytes) same ∙ rest_at from byte rest bytes stands))
+          ∙ ap (take (suc (length word.text))) (sym stands) in
           let end : word.at + length word.text ≡ from + suc (length word.text) = omega arith in
           rw (begun-longer from byte word words same) (
             record {

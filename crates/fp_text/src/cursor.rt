@@ -41,7 +41,7 @@ impl<'a> Model for Tokens<'a> {
     ghost use Rattle.std.specs.Prelude.{◌≤◌, length, drop};
     ghost use Rattle.fp_text.specs.Words.{words_from, IsEdge};
     ghost use Rattle.fp_text.specs.Numbers.{is_name, is_name_byte};
-ghost use Rattle.fp_text.specs.Reading.{Ends, Left};
+    ghost use Rattle.fp_text.specs.Reading.{Ends, Left};
 
     ghost Value = { Left };
 
@@ -178,9 +178,18 @@ impl<'a> Tokens<'a> {
     {
         let word = self.word()?;
         match number(word.text, GREATEST) {
-            Err(_) => Err(TextFault::Wrong { at: word.at, kind: Kind::Number }),
-            Ok(value) if value < least => Err(TextFault::Wrong { at: word.at, kind: Kind::Range }),
-            Ok(value) if most < value => Err(TextFault::Wrong { at: word.at, kind: above }),
+            Err(_) => Err(TextFault::Wrong {
+                at: word.at,
+                kind: Kind::Number,
+            }),
+            Ok(value) if value < least => Err(TextFault::Wrong {
+                at: word.at,
+                kind: Kind::Range,
+            }),
+            Ok(value) if most < value => Err(TextFault::Wrong {
+                at: word.at,
+                kind: above,
+            }),
             Ok(value) => Ok(value),
         }
     }
