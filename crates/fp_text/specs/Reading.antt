@@ -86,3 +86,8 @@ GivesFault (Wrong at kind) read = read ≡ fault at kind
 abbrev pub Gives : {X Y : Type 0} → (X → Y) → Result X TextFault → Left → Read Y → Type 0
 Gives view (Ok x) left read = read ≡ Ok (view x, left)
 Gives view (Err e) left read = GivesFault e read
+
+-- the same for a reader that answers no value
+abbrev pub Ends : {X : Type 0} → Result X TextFault → Left → Result Left Fault → Type 0
+Ends (Ok x) left read = read ≡ Ok left
+Ends (Err e) left read = GivesFault e read

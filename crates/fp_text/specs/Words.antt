@@ -27,6 +27,10 @@ words_from at (byte ∷ bytes) =
 abbrev pub words_of : List ℕ → List Word
 words_of bytes = words_from 0 bytes
 
+-- no word goes on over this place: it is the text's beginning or its end, or a blank stands there
+abbrev pub IsEdge : List ℕ → ℕ → Type 0
+IsEdge bytes place = 0 < place → place < length bytes → is_blank (slice_index bytes place) ≡ true
+
 -- The law of tokens. A token is not empty, its bytes stand at its place, none of them is a blank,
 -- and the bytes just outside are blanks or the text's ends.
 pub record IsToken (bytes : List ℕ) (word : Word) : Type 0 where

@@ -1,8 +1,10 @@
 //! Tokens, numbers and names of a text, reading a grammar up to its first fault, whole files, and a writer of files.
 #![tactic(auto)]
 
+mod cursor;
 mod fault;
-mod number;
+mod numbers;
 
+pub use cursor::{Token, Tokens, Word};
 pub use fault::{Kind, TextFault};
-pub use number::NumberFault;
+pub use numbers::{NumberFault, number, signed};
