@@ -64,13 +64,21 @@ centre_of s slot = record { x = pos (column_x s (slot % across s)); y = pos (row
 abbrev pub slot_limit : ℕ
 slot_limit = 2 ^ 20
 
+-- the grid of a frame and a terminal at a stride
+abbrev pub grid_with : Frame → TermSpec → ℕ → Slots
+grid_with frame terminal stride = record { frame = frame; terminal = terminal; stride = stride }
+
+-- each stride from 1 that is below this one leaves too many slots
+abbrev pub IsLeast : Frame → TermSpec → ℕ → Type 0
+IsLeast frame terminal stride = (lesser : ℕ) → 1 ≤ lesser → lesser < stride → slot_limit < slot_count (grid_with frame terminal lesser)
+
 -- the grid of a frame and a terminal: its stride is the least from 1 that leaves at most 2^20 slots
 pub record IsGrid (frame : Frame) (terminal : TermSpec) (s : Slots) : Type 0 where
   pub frame_is : s.frame ≡ frame
   pub terminal_is : s.terminal ≡ terminal
   pub some_stride : 1 ≤ s.stride
   pub few : slot_count s ≤ slot_limit
-  pub least : (stride : ℕ) → 1 ≤ stride → stride < s.stride → slot_limit < slot_count (record s { stride = stride })
+  pub least : IsLeast frame terminal s.stride
 
 -- what the counts mean: a column is counted exactly where its centres keep the distance from the right edge, a row alike
 pub record CountsAreExact (s : Slots) : Type 0 where

@@ -3,6 +3,8 @@
 
 mod dies;
 mod fault;
+mod grid;
 
 pub use dies::{DieSpec, DiesFault, Frame, Segment, TermSpec};
 pub use fault::BuildFault;
+pub use grid::Grid;
