@@ -4,8 +4,18 @@ use Rattle.std.specs.Prelude.{slice_get, option_map, is_some}
 use Rattle.std.specs.Str.{bytes_eq}
 use Rattle.std.proofs.lemmas.List.{length-append}
 use Rattle.fp_tech.specs.Book.{place_of, is_among}
-use Rattle.fp_contest_in.specs.Grammar.{AreNew}
-use Rattle.fp_contest_in.proofs.Taken.{bytes_same, same_bytes}
+use Rattle.std.proofs.lemmas.Slice.Eq.{bytes_eq-Decides}
+
+bytes_same : (xs ys : List ℕ) → bytes_eq xs ys ≡ true → xs ≡ ys
+bytes_same xs ys = (bytes_eq-Decides xs ys).0
+
+same_bytes : (xs ys : List ℕ) → xs ≡ ys → bytes_eq xs ys ≡ true
+same_bytes xs ys = (bytes_eq-Decides xs ys).1
+
+-- each name is not among those before it
+abbrev pub AreNew : List (List ℕ) → List (List ℕ) → Type 0
+AreNew before [] = Unit {0}
+AreNew before (name ∷ names) = (is_among name before ≡ false) × AreNew (before ++ name ∷ []) names
 
 -- a value that a map of an option gave
 mapped_some : (o : Option ℕ) (k : ℕ) → option_map (λ (n : ℕ). n + 1) o ≡ Some k → (j : ℕ) × (o ≡ Some j) × (j + 1 ≡ k)

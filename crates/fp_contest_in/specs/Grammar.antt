@@ -5,6 +5,7 @@ use Rattle.fp_base.specs.declared.ids.Die.{Die}
 use Rattle.fp_base.specs.declared.ids.Die.TheVariants.{Top, Bottom}
 use Rattle.fp_text.specs.Words.{Word, words_of}
 use Rattle.fp_text.specs.Numbers.{is_name, Spells}
+use Rattle.fp_text.specs.ReadingLaws.{Each}
 use Rattle.fp_tech.specs.declared.dies.Frame.{Frame}
 use Rattle.fp_tech.specs.declared.dies.DieSpec.{DieSpec}
 use Rattle.fp_tech.specs.Book.{Pin, is_among}
@@ -42,15 +43,9 @@ abbrev pub Numbers : List Ranged → List Word → List Word → Type 0
 Numbers [] words rest = words ≡ rest
 Numbers (n ∷ ns) words rest = (word : Word) × (mid : List Word) × (words ≡ word ∷ mid) × Spells n.least n.most word.text n.value × Numbers ns mid rest
 
--- the first words spell these items, one after the other
-abbrev pub Each : {A : Type 0} → (A → List Word → List Word → Type 0) → List A → List Word → List Word → Type 0
-Each spells [] words rest = words ≡ rest
-Each spells (x ∷ xs) words rest = (mid : List Word) × spells x words mid × Each spells xs mid rest
-
--- each name is new: it is not among those before it
-abbrev pub AreNew : List (List ℕ) → List (List ℕ) → Type 0
-AreNew before [] = Unit {0}
-AreNew before (name ∷ names) = (is_among name before ≡ false) × AreNew (before ++ name ∷ []) names
+-- a name is new: it is not among those before it
+abbrev pub IsNew : List ℕ → List (List ℕ) → Type 0
+IsNew name before = is_among name before ≡ false
 
 -- `Pin name x y`
 pub record IsPin (pin : Pin) (words rest : List Word) : Type 0 where
@@ -60,6 +55,10 @@ pub record IsPin (pin : Pin) (words rest : List Word) : Type 0 where
   pub name : Named pin.name after_keyword after_name
   pub offset : Numbers (any_number pin.x ∷ any_number pin.y ∷ []) after_name rest
 
+-- a pin whose name is none of those before it
+abbrev pub IsNewPin : List Pin → Pin → List Word → List Word → Type 0
+IsNewPin before pin words rest = IsPin pin words rest × IsNew pin.name (pin_name_list before)
+
 -- `LibCell name width height p`, then p pins with distinct names
 pub record IsLib (lib : LibText) (words rest : List Word) : Type 0 where
   pub after_keyword : List Word
@@ -68,8 +67,10 @@ pub record IsLib (lib : LibText) (words rest : List Word) : Type 0 where
   pub keyword : Keyword (codes "LibCell") words after_keyword
   pub name : Named lib.name after_keyword after_name
   pub numbers : Numbers (ranged 1 most_number lib.width ∷ ranged 1 most_number lib.height ∷ ranged 0 1024 (length lib.pins) ∷ []) after_name after_count
-  pub items : Each IsPin lib.pins after_count rest
-  pub distinct : AreNew [] (pin_name_list lib.pins)
+  pub items : Each IsNewPin [] lib.pins after_count rest
+
+abbrev pub IsNewLib : List LibText → LibText → List Word → List Word → Type 0
+IsNewLib before lib words rest = IsLib lib words rest × IsNew lib.name (lib_name_list before)
 
 -- `Tech name m`, then m library cells with distinct names
 pub record IsTech (tech : TechText) (words rest : List Word) : Type 0 where
@@ -79,8 +80,10 @@ pub record IsTech (tech : TechText) (words rest : List Word) : Type 0 where
   pub keyword : Keyword (codes "Tech") words after_keyword
   pub name : Named tech.name after_keyword after_name
   pub count : Numbers (ranged 0 4096 (length tech.libs) ∷ []) after_name after_count
-  pub items : Each IsLib tech.libs after_count rest
-  pub distinct : AreNew [] (lib_name_list tech.libs)
+  pub items : Each IsNewLib [] tech.libs after_count rest
+
+abbrev pub IsNewTech : List TechText → TechText → List Word → List Word → Type 0
+IsNewTech before tech words rest = IsTech tech words rest × IsNew tech.name (tech_name_list before)
 
 -- `NumTechnologies n`, then n technologies with distinct names
 pub record AreTechs (techs : List TechText) (words rest : List Word) : Type 0 where
@@ -88,8 +91,7 @@ pub record AreTechs (techs : List TechText) (words rest : List Word) : Type 0 wh
   pub after_count : List Word
   pub keyword : Keyword (codes "NumTechnologies") words after_keyword
   pub count : Numbers (ranged 1 16 (length techs) ∷ []) after_keyword after_count
-  pub items : Each IsTech techs after_count rest
-  pub distinct : AreNew [] (tech_name_list techs)
+  pub items : Each IsNewTech [] techs after_count rest
 
 abbrev pub die_of : Setup → Die → DieSpec
 die_of setup Top = setup.top
@@ -142,17 +144,15 @@ abbrev pub is_in : Section → List Section → Bool
 is_in section [] = false
 is_in section (first ∷ others) = if section_number first == section_number section then true else is_in section others
 
--- no section stands among those before it
-abbrev pub AreOnce : List Section → List Section → Type 0
-AreOnce before [] = Unit {0}
-AreOnce before (section ∷ sections) = (is_in section before ≡ false) × AreOnce (before ++ section ∷ []) sections
+-- a section that is none of those before it
+abbrev pub IsNewSection : List TechText → Setup → List Section → Section → List Word → List Word → Type 0
+IsNewSection techs setup before section words rest = IsSection techs setup section words rest × (is_in section before ≡ false)
 
 -- the nine sections, each once, in some order; the rows of both dies lie in the frame
 pub record AreSections (techs : List TechText) (setup : Setup) (words rest : List Word) : Type 0 where
   pub order : List Section
   pub nine : length order ≡ 9
-  pub once : AreOnce [] order
-  pub each : Each (IsSection techs setup) order words rest
+  pub each : Each (IsNewSection techs setup) [] order words rest
   pub top_lies : rows_lie setup.frame setup.top ≡ true
   pub bottom_lies : rows_lie setup.frame setup.bottom ≡ true
 
