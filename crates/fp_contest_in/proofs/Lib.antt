@@ -2,3 +2,4 @@ pub mod Taken
 pub mod Techs
 pub mod Bits
 pub mod Names
+pub mod Fields

@@ -138,14 +138,14 @@ rows_next at l = do
   Ok (record { at = at; start_x = x.0; start_y = y.0; length = sizes.0.0; height = sizes.0.1; repeat = repeat.0 }, repeat.1)
 
 -- the number of the technology of a name that is known
+abbrev pub known_tech : Option ℕ → ℕ → Left → Read TechId
+known_tech None at l = fault at kinds.Unknown
+known_tech (Some number) at l = Ok (record { 0 = number }, l)
+
 unfoldable pub tech_name_next : List (List ℕ) → Left → Read TechId
 tech_name_next names l = do
   name ← name_next l
-  known (place_of name.0.text names) name
-  where
-    known : Option ℕ → Word × Left → Read TechId
-    known None name = fault name.0.at kinds.Unknown
-    known (Some number) name = Ok (record { 0 = number }, name.1)
+  known_tech (place_of name.0.text names) name.0.at name.1
 
 -- a section's fields, put beside those of the sections before it
 unfoldable pub fields_next : List (List ℕ) → Section → ℕ → Found → Left → Read Found
