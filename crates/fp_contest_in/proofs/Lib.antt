@@ -3,3 +3,4 @@ pub mod Techs
 pub mod Bits
 pub mod Names
 pub mod Fields
+pub mod FieldsAgain
