@@ -4,9 +4,23 @@ ghost use Rattle.std.specs.Prelude.{◌≡◌, ◌≤◌, ℕ, List, [], ◌++�
 ghost use Rattle.fp_base.specs.Faults.{Rose};
 ghost use Rattle.fp_base.specs.Files.{Files, WhereTold, bytes_of, sets_file, OthersStay, ReadsAt};
 
+use std::alloc::{AllocError, AllocFailed};
+
 /// Memory was asked for and refused.
 #[derive(Clone, Copy, Debug, PartialEq, Eq)]
 pub struct NoMemory;
+
+impl From<AllocError> for NoMemory {
+    fn from(_error: AllocError) -> NoMemory {
+        NoMemory
+    }
+}
+
+impl<T: Drop> From<AllocFailed<T>> for NoMemory {
+    fn from(_error: AllocFailed<T>) -> NoMemory {
+        NoMemory
+    }
+}
 
 /// A device failed; its count of faults rose, or stands at its greatest number.
 #[derive(Clone, Copy, Debug, PartialEq, Eq)]

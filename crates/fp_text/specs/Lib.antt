@@ -6,3 +6,4 @@ pub mod Numbers
 pub mod Reading
 pub mod Cursor
 pub mod ReadingLaws
+pub mod Whole

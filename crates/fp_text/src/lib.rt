@@ -4,7 +4,9 @@
 mod cursor;
 mod fault;
 mod numbers;
+mod whole;
 
 pub use cursor::{Token, Tokens, Word};
 pub use fault::{Kind, TextFault};
 pub use numbers::{NumberFault, number, signed};
+pub use whole::{WholeFault, read_whole};
