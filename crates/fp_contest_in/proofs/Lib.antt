@@ -4,5 +4,5 @@ pub mod Bits
 pub mod Names
 pub mod Fields
 pub mod FieldsAgain
-pub mod Sections
+pub mod SectionsAgree
 pub mod Whole

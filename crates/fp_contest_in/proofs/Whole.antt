@@ -20,7 +20,7 @@ use Rattle.fp_contest_in.proofs.Techs.{techs_ok, techs_again}
 use Rattle.fp_contest_in.proofs.Bits.{has_bit, number_small, all_set}
 use Rattle.fp_contest_in.proofs.Names.{AreNew}
 use Rattle.fp_contest_in.proofs.FieldsAgain.{Agrees, setup_is}
-use Rattle.fp_contest_in.proofs.Sections.{sections_ok, sections_again}
+use Rattle.fp_contest_in.proofs.SectionsAgree.{sections_ok, sections_again}
 
 -- technologies that stand one after the other have distinct names
 each_new : (before techs : List TechText) (words rest : List Word) → Each IsNewTech before techs words rest → AreNew (tech_name_list before) (tech_name_list techs)

@@ -2,5 +2,6 @@
 #![tactic(auto)]
 
 mod section;
+mod sections;
 
 pub use section::Section;
