@@ -1,5 +1,5 @@
 -- A writer of a file, by the bytes that wait in it, and what a call of it leaves.
-use Rattle.std.specs.Prelude.{◌≡◌, ℕ, ◌≤◌, Bool, true, false, if◌then◌else◌, List, [], ◌++◌, Option, Some, None, option_map, unwrap_or}
+use Rattle.std.specs.Prelude.{◌≡◌, ℕ, ◌≤◌, Bool, true, false, if◌then◌else◌, List, [], Option, Some, None, option_map, unwrap_or}
 use Rattle.fp_base.specs.Files.{Files, bytes_of, sets_file, followed_by, OthersStay}
 use Rattle.fp_base.specs.Faults.{Rose}
 

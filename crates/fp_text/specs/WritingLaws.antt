@@ -1,10 +1,9 @@
 -- Calls of a writer one after the other.
 use Rattle.std.specs.Prelude.{◌≡◌, ℕ, ◌≤◌, Bool, true, false, List, [], ◌++◌, Option, Some, None, option_map, unwrap_or}
-use Rattle.std.proofs.Common.{refl, sym, ap, subst, ◌∙◌, arith, inl, inr, append_assoc}
+use Rattle.std.proofs.Common.{refl, sym, ap, ◌∙◌, arith, inl, inr}
 use Rattle.std.proofs.lemmas.Bool.{cases_Bool, both_ways}
-use Rattle.std.proofs.lemmas.List.{append-nil}
-use Rattle.fp_base.specs.Files.{Files, bytes_of, with_file, sets_file, followed_by, OthersStay}
-use Rattle.fp_base.specs.FilesLaws.{bytes_set, others_refl, others_then, rose_later, rose_since, followed_none, followed_then}
+use Rattle.fp_base.specs.Files.{Files, bytes_of, sets_file, followed_by, OthersStay}
+use Rattle.fp_base.specs.FilesLaws.{bytes_set, is_set, others_refl, others_then, rose_later, rose_since, followed_none, followed_then}
 use Rattle.fp_base.specs.Faults.{Rose}
 use Rattle.fp_text.specs.Writing.{Waiting, Told, text_of, so_far, Starts, Adds, Finishes}
 
@@ -60,7 +59,7 @@ pub adds_flush : (name : List ℕ) (old new : Told) (before after : Waiting) →
     → Adds name [] old new before after
 adds_flush name old new before after running empty held others made later =
     let text : so_far name new after ≡ followed_by [] (so_far name old before) =
-        ap (λ (w : Waiting). so_far name new w) empty ∙ followed_none (text_of name new) ∙ text-set name (λ bytes. bytes ++ before.bytes) old new held ∙ sym (followed_none (so_far name old before)) in
+    ap (λ (w : Waiting). so_far name new w) empty ∙ followed_none (text_of name new) ∙ text-set name (λ bytes. bytes ++ before.bytes) old new held ∙ sym (followed_none (so_far name old before)) in
     record {
       text = λ ran. text;
       stays_failed = λ failed. absurd (both_ways _ running failed);
@@ -76,8 +75,8 @@ pub adds_direct : (name piece : List ℕ) (old new : Told) (before after : Waiti
     → Adds name piece old new before after
 adds_direct name piece old new before after empty same held others made later =
     let text : so_far name new after ≡ followed_by piece (so_far name old before) =
-        ap (λ (w : Waiting). so_far name new w) (same ∙ empty) ∙ followed_none (text_of name new) ∙ text-set name (λ bytes. bytes ++ piece) old new held
-        ∙ ap (followed_by piece) (sym (followed_none (text_of name old)) ∙ ap (λ (w : Waiting). so_far name old w) (sym empty)) in
+    ap (λ (w : Waiting). so_far name new w) (same ∙ empty) ∙ followed_none (text_of name new) ∙ text-set name (λ bytes. bytes ++ piece) old new held
+    ∙ ap (followed_by piece) (sym (followed_none (text_of name old)) ∙ ap (λ (w : Waiting). so_far name old w) (sym empty)) in
     record {
       text = λ ran. text;
       stays_failed = λ failed. absurd (both_ways before.failed (ap (λ (w : Waiting). w.failed) empty) failed);
@@ -91,7 +90,7 @@ adds_direct name piece old new before after empty same held others made later =
 pub adds_kept : (name piece : List ℕ) (folder : Told) (before after : Waiting) → after ≡ record { bytes = before.bytes ++ piece; failed = before.failed } → Adds name piece folder folder before after
 adds_kept name piece folder before after is =
     let text : so_far name folder after ≡ followed_by piece (so_far name folder before) =
-        ap (λ (w : Waiting). so_far name folder w) is ∙ sym (followed_then before.bytes piece (text_of name folder)) in
+    ap (λ (w : Waiting). so_far name folder w) is ∙ sym (followed_then before.bytes piece (text_of name folder)) in
     let same : after.failed ≡ before.failed = ap (λ (w : Waiting). w.failed) is in
     record {
       text = λ ran. text;
@@ -134,8 +133,29 @@ finishes name piece old new writer failed running all held rose others made late
   later = later;
 }
 
+-- the files where every other name stays and this one holds the text
+set_is : (name text : List ℕ) (old new : Option Files) → option_map (λ files. bytes_of files name) new ≡ option_map (λ _. Some text) old → OthersStay name old new → new ≡ sets_file name (λ _. text) old
+set_is name text None None holds others = refl
+set_is name text None (Some new) holds others = absurd others
+set_is name text (Some old) None holds others = absurd others
+set_is name text (Some old) (Some new) holds others = let is : bytes_of new name ≡ Some text = cc in ap Some (is_set old new name text others is)
+
+-- the text of a created name
+created : (name text : List ℕ) (held : Option Files)
+    → option_map Some (followed_by text (followed_by [] (option_map (λ _. []) (option_map (λ files. unwrap_or (bytes_of files name) []) held)))) ≡ option_map (λ _. Some text) held
+created name text None = refl
+created name text (Some files) = refl
+
 -- A whole run: a new writer, the pieces, and the last call that answered Ok. The files are then those of before, with
 -- the name holding the pieces; other names stay whatever was answered.
 pub is_written : (name text : List ℕ) (before started ended after : Told) (first last : Waiting) → Starts name before started first → Adds name text started ended first last
     → Finishes name ended after last false → after.held ≡ sets_file name (λ _. text) before.held
-is_written name text before started ended after first last new adds end = ?
+is_written name text before started ended after first last new adds end =
+    let ran : last.failed ≡ false = elim (cases_Bool last.failed) [ inl failed ↦ absurd (both_ways _ refl (end.stays_failed failed)) | inr ran ↦ ran ] in
+    let began : first.failed ≡ false = elim (cases_Bool first.failed) [ inl failed ↦ absurd (both_ways _ ran (adds.stays_failed failed)) | inr ran ↦ ran ] in
+    let start : so_far name started first ≡ followed_by [] (option_map (λ _. []) (text_of name before)) =
+    (λ i. followed_by (new.none_wait i) (text-set name (λ _. []) before started (new.empty began) i)) in
+    let holds : option_map (λ files. bytes_of files name) after.held ≡ option_map (λ _. Some text) before.held =
+    end.holds refl ∙ ap (option_map Some) (adds.text ran ∙ ap (followed_by text) start) ∙ created name text before.held in
+    set_is name text before.held after.held holds
+    (others_then name before.held ended.held after.held (others_then name before.held started.held ended.held new.others adds.others) end.others)

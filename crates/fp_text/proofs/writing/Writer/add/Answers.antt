@@ -1,6 +1,6 @@
-use Rattle.std.proofs.Common.{◌≡◌, ◌<◌, ◌+◌, ◌≤◌, ◌++◌, [], List, ℕ, Bool, true, false, length, take, refl, ap, sym, subst, ◌∙◌, arith, rules}
+use Rattle.std.proofs.Common.{◌≡◌, ◌<◌, ◌+◌, [], false, length, refl, ap, sym, ◌∙◌, arith, rules}
 use Rattle.std.proofs.lemmas.List.{length-take-le}
-use Rattle.fp_text.specs.Writing.{Waiting, Told, told}
+use Rattle.fp_text.specs.Writing.{Waiting}
 use Rattle.fp_text.specs.WritingLaws.{adds_direct}
 use Rattle.fp_text.proofs.writing.Writer.add.Goals as goal
 

@@ -1,6 +1,6 @@
-use Rattle.std.proofs.Common.{◌≡◌, ◌++◌, [], List, ℕ, Bool, true, false, take, ap, sym, ◌∙◌}
+use Rattle.std.proofs.Common.{◌≡◌, ◌++◌, [], List, ℕ, Bool, false, ap, ◌∙◌}
 use Rattle.fp_base.specs.Files.{sets_file}
-use Rattle.fp_text.specs.Writing.{Waiting, Told, told}
+use Rattle.fp_text.specs.Writing.{Waiting}
 use Rattle.fp_text.specs.WritingLaws.{adds_flush}
 use Rattle.fp_text.proofs.writing.Writer.flush.Goals as goal
 
