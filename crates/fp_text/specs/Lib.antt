@@ -9,3 +9,4 @@ pub mod ReadingLaws
 pub mod Whole
 pub mod Writing
 pub mod WritingLaws
+pub mod NumbersLaws
