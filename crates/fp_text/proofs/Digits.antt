@@ -1,9 +1,8 @@
 -- The value of digits, one digit after the other.
-use Rattle.std.proofs.Common.{◌≡◌, ℕ, ◌+◌, ◌-◌, ◌*◌, ◌<◌, ◌≤◌, List, [], ◌∷◌, length, get_or, drop, Ok, Err, Result, refl, sym, ap, ◌∙◌, arith}
+use Rattle.std.proofs.Common.{◌≡◌, ℕ, ◌+◌, ◌-◌, ◌*◌, ◌<◌, ◌≤◌, List, [], ◌∷◌, length, get_or, drop, Ok, Err, refl, sym, ap, ◌∙◌, arith}
 use Rattle.std.proofs.lemmas.Bool.{lt-leb, le-leb}
 use Rattle.std.proofs.lemmas.List.{drop_more, drop_all}
 use Rattle.fp_text.specs.Numbers.{value_from, at_most}
-use Rattle.fp_text.specs.declared.numbers.NumberFault.{NumberFault}
 use Rattle.fp_text.specs.declared.numbers.NumberFault.TheVariants.{TooLarge}
 
 grows : (digits : List ℕ) (n : ℕ) → n ≤ value_from n digits

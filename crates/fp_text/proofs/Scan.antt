@@ -1,8 +1,8 @@
 -- What two scans, to the next byte that is no blank and on to the next blank, say of the words that are left.
 use Rattle.std.proofs.Common.{◌≡◌, ℕ, ◌<◌, ◌≤◌, Bool, true, false, List, [], ◌∷◌, length, drop, sym, ap, subst, ◌∙◌, arith, inl, inr}
 use Rattle.std.specs.Prelude.{◌≢◌, slice_index, slice_range}
-use Rattle.std.proofs.lemmas.Bool.{cases_lt, true_from_ne_false, false_from_ne_true, both_ways}
-use Rattle.fp_text.specs.Words.{is_blank, Word, words_from, IsEdge, IsToken}
+use Rattle.std.proofs.lemmas.Bool.{cases_lt, true_from_ne_false}
+use Rattle.fp_text.specs.Words.{is_blank, words_from, IsEdge, IsToken}
 use Rattle.fp_text.specs.Reading.{Left}
 use Rattle.fp_text.specs.WordsLaws.{words-none, words-skipped, words-found, words_from-token}
 

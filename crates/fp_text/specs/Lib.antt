@@ -7,3 +7,6 @@ pub mod Reading
 pub mod Cursor
 pub mod ReadingLaws
 pub mod Whole
+pub mod Writing
+pub mod WritingLaws
+pub mod NumbersLaws

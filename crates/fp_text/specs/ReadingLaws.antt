@@ -1,8 +1,8 @@
 -- What is read stands in the tokens, what stands in the tokens is read, and how a loop reads so many items.
 use Rattle.std.specs.Prelude.{◌≡◌, ℕ, zero, suc, ◌+◌, ◌-◌, ◌^◌, ◌<◌, ◌≤◌, Bool, true, false, ◌&&◌, nat_lt, nat_le, if◌then◌else◌, List, [], ◌∷◌, ◌++◌, length, Result, Ok, Err}
 use Rattle.std.specs.Str.{bytes_eq}
-use Rattle.std.proofs.Common.{refl, sym, ap, subst, ◌∙◌, cond, arith, inl, inr, append_assoc}
-use Rattle.std.proofs.lemmas.Bool.{cases_Bool, and_parts, and_from, ltb-false, leb-true, le-ltb, le-leb}
+use Rattle.std.proofs.Common.{refl, sym, ap, subst, ◌∙◌, cond, arith, append_assoc}
+use Rattle.std.proofs.lemmas.Bool.{and_parts, and_from, ltb-false, leb-true, le-ltb, le-leb}
 use Rattle.std.proofs.lemmas.List.{append-nil}
 use Rattle.std.proofs.lemmas.Slice.Eq.{bytes_eq-Decides}
 use Rattle.fp_text.specs.Words.{Word}
@@ -124,9 +124,9 @@ number_from least most above word =
 
 number_from-ok : (least most : ℕ) (above : Kind) (word : Word) (l : Left) (n : ℕ) (left : Left) → number_from least most above (word, l) ≡ Ok (n, left) → Spells least most word.text n × (n ≤ 2 ^ 30) × (l ≡ left)
 number_from-ok least most above word l n left e =
-    let value = value_of word.text in
-    let high = if nat_lt most value then fault word.at above else done (value, l) in
-    let low = if nat_lt value least then fault word.at Range else high in
+    let value : ℕ = value_of word.text in
+    let high : Read ℕ = if nat_lt most value then fault word.at above else done (value, l) in
+    let low : Read ℕ = if nat_lt value least then fault word.at Range else high in
     let t = cond_ok (is_digits word.text && nat_le value (2 ^ 30)) low (record { at = word.at; kind = Number }) (n, left) e in
     let u = cond_not (nat_lt value least) high (record { at = word.at; kind = Range }) (n, left) t.1 in
     let v = cond_not (nat_lt most value) (done (value, l)) (record { at = word.at; kind = above }) (n, left) u.1 in

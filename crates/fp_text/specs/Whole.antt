@@ -1,6 +1,5 @@
 -- Whole files, and files that were read as far as some bytes.
-use Rattle.std.specs.Prelude.{◌≡◌, ℕ, ◌<◌, ◌≤◌, List, [], length, take, Option, Some, None, Result, Ok, Err}
-use Rattle.fp_base.specs.Files.{Files, WhereTold, bytes_of}
+use Rattle.std.specs.Prelude.{◌≡◌, ℕ, ◌<◌, List, [], length, take, Option, Some, None, Result, Ok, Err}
 use Rattle.fp_text.specs.declared.whole.WholeFault.{WholeFault}
 use Rattle.fp_text.specs.declared.whole.WholeFault.TheVariants.{Missing, Device, Long, Memory}
 

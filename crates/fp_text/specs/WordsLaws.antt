@@ -93,6 +93,12 @@ pub words-solid : (text bytes : List ℕ) (at : ℕ) → 0 < length text → All
 words-solid [] bytes at some all breaks = absurd (omega arith)
 words-solid (byte ∷ text) bytes at some all breaks = words-word byte text bytes at all breaks
 
+-- a word with a blank behind it
+pub words-one : (text bytes : List ℕ) (blank at : ℕ) → 0 < length text → AllAre false text → is_blank blank ≡ true
+    → words_from at (text ++ blank ∷ bytes) ≡ record { at = at; text = text } ∷ words_from (at + length text + 1) bytes
+words-one text bytes blank at some all is =
+    words-solid text (blank ∷ bytes) at some all is ∙ ap (λ (ws : List Word). record { at = at; text = text } ∷ ws) (words-blank blank bytes (at + length text) is)
+
 -- a part of the bytes
 slice_length : (bytes : List ℕ) (from to : ℕ) → from ≤ to → to ≤ length bytes → length (slice_range bytes from to) ≡ to - from
 slice_length bytes from to le within = length-take-le (to - from) (drop from bytes) (omega (arith, length-drop from bytes))

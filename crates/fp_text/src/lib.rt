@@ -5,8 +5,10 @@ mod cursor;
 mod fault;
 mod numbers;
 mod whole;
+mod writing;
 
 pub use cursor::{Token, Tokens, Word};
 pub use fault::{Kind, TextFault};
 pub use numbers::{NumberFault, number, signed};
 pub use whole::{WholeFault, read_whole};
+pub use writing::Writer;

@@ -1,4 +1,4 @@
-use Rattle.std.proofs.Common.{◌≡◌, ◌+◌, ◌-◌, ◌*◌, get_or, ap, sym, ◌∙◌, arith}
+use Rattle.std.proofs.Common.{◌+◌, ◌*◌, sym, arith}
 use Rattle.fp_text.specs.Numbers.{value_of}
 use Rattle.fp_text.proofs.Digits.{digit_more, too_large, all_read}
 use Rattle.fp_text.proofs.numbers.digits_value.Goals as goal

@@ -1,4 +1,4 @@
-use Rattle.std.proofs.Common.{◌≡◌, arith}
+use Rattle.std.proofs.Common.{arith}
 use Rattle.fp_text.proofs.Front.{front_more}
 use Rattle.fp_text.proofs.whole.read_whole.Goals as goal
 

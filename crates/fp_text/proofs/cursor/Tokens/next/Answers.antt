@@ -1,8 +1,4 @@
-use Rattle.std.proofs.Common.{ap, sym, subst, ◌∙◌, drop}
-use Rattle.fp_text.specs.Words.{IsToken, words_from}
-use Rattle.fp_text.specs.WordsLaws.{words_from-token}
-use Rattle.fp_text.specs.Cursor.{word_at}
-use Rattle.fp_text.proofs.Scan.{Ran, none_left, one_left, token_left, edge-ran}
+use Rattle.fp_text.proofs.Scan.{none_left, one_left, token_left}
 use Rattle.fp_text.proofs.cursor.Tokens.next.Goals as goal
 
 pub returns-then-start-end-clause-advances : goal.returns-then-start-end-clause-advances
