@@ -1,3 +1,5 @@
 pub mod Request
+pub mod Asked
 pub mod Report
+pub mod Causes
 pub mod Run

@@ -37,27 +37,20 @@ kind_text Rows = codes "rows"
 kind_text Limit = codes "limit"
 kind_text Trailing = codes "trailing"
 
-abbrev pub cause_text : Cause → List ℕ
-cause_text IsMissing = codes "0 missing"
-cause_text IsLong = codes "268435456 long"
-cause_text (IsWrong at kind) = decimal at ++ codes " " ++ kind_text kind
-
--- a line feed
-abbrev pub line_end : List ℕ
-line_end = 10 ∷ []
-
 -- the words are no request
 abbrev pub words_report : List ℕ
-words_report = codes "words" ++ line_end
+words_report = codes "words\n"
 
--- `input NAME AT KIND`
+-- `input NAME AT KIND`; a file that is too long is told at its limit
 abbrev pub input_report : List ℕ → Cause → List ℕ
-input_report name cause = codes "input " ++ name ++ codes " " ++ cause_text cause ++ line_end
+input_report name IsMissing = codes "input " ++ name ++ codes " 0 missing\n"
+input_report name IsLong = codes "input " ++ name ++ codes " 268435456 long\n"
+input_report name (IsWrong at kind) = codes "input " ++ name ++ codes " " ++ decimal at ++ codes " " ++ kind_text kind ++ codes "\n"
 
 -- the seed of a problem without cells and nets, over so many slots
 abbrev pub seed_report : ℕ → List ℕ
-seed_report slots = codes "seed 0 first top cut 0 slots " ++ decimal slots ++ line_end
+seed_report slots = codes "seed 0 first top cut 0 slots " ++ decimal slots ++ codes "\n"
 
 -- the output file of a placement without cells and terminals
 abbrev pub no_cells_text : List ℕ
-no_cells_text = codes "TopDiePlacement 0" ++ line_end ++ codes "BottomDiePlacement 0" ++ line_end ++ codes "NumTerminals 0" ++ line_end
+no_cells_text = codes "TopDiePlacement 0\nBottomDiePlacement 0\nNumTerminals 0\n"

@@ -1,4 +1,8 @@
 //! The program `faceplace`.
 #![tactic(auto)]
 
+mod out;
+mod report;
+mod request;
+
 fn main() {}
