@@ -2,4 +2,6 @@ pub mod Request
 pub mod Asked
 pub mod Report
 pub mod Causes
+pub mod Status
+pub mod Input
 pub mod Run

@@ -4,6 +4,7 @@ use Rattle.fp_text.specs.declared.fault.Kind.{Kind}
 use Rattle.fp_text.specs.declared.fault.Kind.TheVariants.{Ended, Word, Number, Name, Twice, Unknown, Range, Rows, Limit, Trailing}
 use Rattle.fp_text.specs.Reading.{fault}
 use Rattle.fp_contest_in.specs.Text.{ProblemText}
+use Rattle.fp_contest_in.specs.Grammar.{Reads}
 use Rattle.fp_contest_in.specs.Statements.{problem_of}
 
 -- the greatest length of an input file
@@ -24,6 +25,11 @@ HasCause None (IsWrong at kind) = ⊥
 HasCause (Some bytes) IsMissing = ⊥
 HasCause (Some bytes) IsLong = most_input < length bytes
 HasCause (Some bytes) (IsWrong at kind) = (length bytes ≤ most_input) × (problem_of bytes ≡ fault at kind)
+
+-- what a name holds is an input file that says this problem
+abbrev pub HoldsProblem : Option (List ℕ) → ProblemText → Type 0
+HoldsProblem None text = ⊥
+HoldsProblem (Some bytes) text = (length bytes ≤ most_input) × Reads bytes text
 
 abbrev pub kind_text : Kind → List ℕ
 kind_text Ended = codes "ended"

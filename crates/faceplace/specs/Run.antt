@@ -1,12 +1,11 @@
 -- What each ending of the program means: what the files and the output were before the call and are after it.
-use Rattle.std.specs.Prelude.{◌≡◌, ◌⊎◌, ℕ, ◌≤◌, List, [], length, Option, Some, None}
+use Rattle.std.specs.Prelude.{◌≡◌, ◌⊎◌, ℕ, List, Option, Some, None}
 use Rattle.fp_base.specs.Faults.{Rose}
 use Rattle.fp_base.specs.Files.{Files, WhereTold, bytes_of, sets_file, OthersStay, followed_by, FrontFollows}
 use Rattle.fp_tech.specs.Slots.{Slots, IsGrid, slot_count}
 use Rattle.fp_contest_in.specs.Text.{ProblemText}
-use Rattle.fp_contest_in.specs.Grammar.{Reads}
 use Rattle.faceplace.specs.Request.{Asked, Seed}
-use Rattle.faceplace.specs.Report.{Cause, HasCause, most_input, words_report, input_report, seed_report, no_cells_text}
+use Rattle.faceplace.specs.Report.{Cause, HasCause, HoldsProblem, words_report, input_report, seed_report, no_cells_text}
 
 -- how a run ends
 pub data Ending : Type 0 where
@@ -52,11 +51,6 @@ Reports report old new = new.written ≡ followed_by report old.written
 abbrev pub ReportFails : List ℕ → Outside → Outside → Type 0
 ReportFails report old new = SinkRose old new × FrontFollows report old.written new.written
 
--- what a name holds is an input file that says this problem
-abbrev pub HoldsProblem : Option (List ℕ) → ProblemText → Type 0
-HoldsProblem None text = ⊥
-HoldsProblem (Some bytes) text = (length bytes ≤ most_input) × Reads bytes text
-
 abbrev pub InputSays : List ℕ → Outside → ProblemText → Type 0
 InputSays input old text = WhereTold old.held (λ files. HoldsProblem (bytes_of files input) text)
 
@@ -98,3 +92,19 @@ Ends (Some (Seed input output)) BadWords old new = ⊥
 Ends (Some (Seed input output)) (BadInput cause) old new =
     InputHasCause input old cause × SameFiles old new × Reports (input_report input cause) old new
 Ends (Some (Seed input output)) Device old new = SeedFails input output old new
+
+-- the outside at one moment
+abbrev pub outside : Option Files → Option (List ℕ) → ℕ → ℕ → Outside
+outside held written folder_faults sink_faults = record { held = held; written = written; folder_faults = folder_faults; sink_faults = sink_faults }
+
+-- a run ends with this status
+abbrev pub EndsAs : Option Asked → ℕ → Outside → Outside → Type 0
+EndsAs asked status old new = (e : Ending) × (status ≡ status_of e) × Ends asked e old new
+
+-- What the refusal of an input file leaves of the output: its report and the status 3; a front of it and the status 6; or
+-- nothing and the status 1.
+abbrev pub Refuses : List ℕ → Cause → ℕ → Option (List ℕ) → Option (List ℕ) → ℕ → ℕ → Type 0
+Refuses name cause status old new before after =
+    ((status ≡ 3) × (new ≡ followed_by (input_report name cause) old))
+    ⊎ ((status ≡ 6) × Rose before after × FrontFollows (input_report name cause) old new)
+    ⊎ ((status ≡ 1) × (new ≡ old) × (after ≡ before))
