@@ -1,1 +1,3 @@
 pub mod GridLemmas
+pub mod LibraryLemmas
+pub mod NameLemmas

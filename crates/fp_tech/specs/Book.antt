@@ -105,8 +105,11 @@ lib_refusal book tech name = refusal (nat_le 4096 (length (libs_of book tech))) 
 abbrev pub pins_in : Book → ℕ → ℕ → List Pin
 pins_in book tech id = unwrap_or (option_map (λ lib. lib.pins) (lib_in book tech id)) []
 
+abbrev pub pins_refusal : List Pin → List ℕ → Option BuildFault
+pins_refusal pins name = refusal (nat_le 1024 (length pins)) (is_among name (map (λ pin. pin.name) pins)) false
+
 abbrev pub pin_refusal : Book → ℕ → ℕ → List ℕ → Option BuildFault
-pin_refusal book tech id name = refusal (nat_le 1024 (length (pins_in book tech id))) (is_among name (map (λ pin. pin.name) (pins_in book tech id))) false
+pin_refusal book tech id name = pins_refusal (pins_in book tech id) name
 
 -- What an adding call answers and leaves: Ok exactly where nothing refuses, with its answer and the grown value;
 -- a refusal leaves the value as it was, and so does want of memory.

@@ -1,4 +1,5 @@
 pub mod Book
+pub mod KeptBook
 pub mod KeptGrid
 pub mod Plan
 pub mod Slots

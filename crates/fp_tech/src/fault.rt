@@ -1,5 +1,9 @@
 //! Why something could not be added.
 
+ghost use Rattle.std.specs.Prelude.{◌≡◌};
+
+use std::alloc::{AllocError, AllocFailed};
+
 /// Why an adding call refuses. The object is then as it was.
 #[derive(Clone, Copy, Debug, PartialEq, Eq)]
 pub enum BuildFault {
@@ -11,4 +15,24 @@ pub enum BuildFault {
     Limit,
     /// Memory was asked for and refused.
     Memory,
+}
+
+impl From<AllocError> for BuildFault {
+    ghost use Rattle.fp_tech.specs.declared.fault.BuildFault.TheVariants.{Memory};
+
+    ghost from_gives = { λ _ fault. fault ≡ Memory };
+
+    fn from(_error: AllocError) -> BuildFault {
+        BuildFault::Memory
+    }
+}
+
+impl<T: Drop> From<AllocFailed<T>> for BuildFault {
+    ghost use Rattle.fp_tech.specs.declared.fault.BuildFault.TheVariants.{Memory};
+
+    ghost from_gives = { λ _ fault. fault ≡ Memory };
+
+    fn from(_error: AllocFailed<T>) -> BuildFault {
+        BuildFault::Memory
+    }
 }

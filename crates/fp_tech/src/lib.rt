@@ -4,6 +4,8 @@
 mod dies;
 mod fault;
 mod grid;
+mod library;
+mod names;
 
 pub use dies::{DieSpec, DiesFault, Frame, Segment, TermSpec};
 pub use fault::BuildFault;
