@@ -1,9 +1,9 @@
 //! The library of one technology: its cells, which are found by their numbers, and their pins, found by their names.
 
-ghost use Rattle.std.specs.Prelude.{◌≡◌, ◌+◌, ◌<◌, ◌++◌, ◌∷◌, [], None, Some, ◌==◌, List, length, map, find, is_some, slice_get, OnOk, OnErr, IsSome, IsTrue, nat_eq};
+ghost use Rattle.std.specs.Prelude.{◌≡◌, ◌+◌, ◌<◌, ◌++◌, ◌∷◌, [], None, Some, ◌==◌, List, length, map, find, is_some, slice_get, OnOk, OnErr, IsSome, IfSome, IsTrue, nat_eq};
 ghost use Rattle.std.specs.List.{IsDistinct};
-ghost use Rattle.std.specs.Option.{option_copied};
-ghost use Rattle.fp_tech.specs.Book.{Lib, Pin, place_of, pin_names, more_pins, pins_refusal, Adds};
+ghost use Rattle.std.specs.Option.{option_map, option_copied};
+ghost use Rattle.fp_tech.specs.Book.{Lib, Pin, place_of, pin_names, names_of, more_pins, pins_refusal, Adds};
 ghost use Rattle.fp_tech.specs.KeptBook.{id_of, pins_at};
 
 use crate::fault::BuildFault;
@@ -66,18 +66,25 @@ impl LibCell {
         self.pins.len()
     }
 
-    /// The name of a pin, and its offset.
-    pub fn pin(&self, place: usize) -> (&[u8], u32, u32)
+    pub fn pin_name(&self, place: usize) -> &[u8]
         requires { place < length self.now.pins }
-        ensures { slice_get self.now.pins place ≡ Some (record { name = result.0.now; x = result.1; y = result.2 }) }
+        ensures { slice_get (names_of self.now.pins) place ≡ Some result.now }
     {
-        let (name, offset) = self.pins.get_index(place).unwrap();
-        (name.as_slice(), offset.0, offset.1)
+        self.pins.get_index(place).unwrap().0.as_slice()
+    }
+
+    /// A pin's offset.
+    pub fn offset(&self, place: usize) -> (u32, u32)
+        requires { place < length self.now.pins }
+        ensures { option_map (λ pin. (pin.x, pin.y)) (slice_get self.now.pins place) ≡ Some result }
+    {
+        *self.pins.get_index(place).unwrap().1
     }
 
     /// The number of the pin of that name.
     pub fn pin_named(&self, name: &[u8]) -> Option<usize>
-        ensures { result ≡ place_of name.now (pin_names self.now) }
+        ensures place { result ≡ place_of name.now (names_of self.now.pins) }
+        ensures within { IfSome result (λ p. p < length self.now.pins) }
     {
         self.pins.get_index_of(name)
     }

@@ -1,7 +1,7 @@
 //! Names in the order of adding, which are found by hashing.
 
-ghost use Rattle.std.specs.Prelude.{◌≡◌, ◌+◌, ◌<◌, ◌++◌, ◌∷◌, [], None, length, take, slice_get, Some, OnOk, OnErr};
-ghost use Rattle.fp_tech.specs.Book.{place_of};
+ghost use Rattle.std.specs.Prelude.{◌≡◌, ◌+◌, ◌<◌, ◌++◌, ◌∷◌, [], None, length, take, slice_get, Some, unwrap_or, IfOk, IfSome, OnOk, OnErr};
+ghost use Rattle.fp_tech.specs.Book.{place_of, with_name};
 
 use indexmap::IndexSet;
 use std::alloc::{AllocError, Global};
@@ -44,7 +44,8 @@ impl Names {
     }
 
     pub fn place(&self, name: &[u8]) -> Option<usize>
-        ensures { result ≡ place_of name.now self.now }
+        ensures place { result ≡ place_of name.now self.now }
+        ensures within { IfSome result (λ p. p < length self.now) }
     {
         self.set.get_index_of(name)
     }
@@ -58,6 +59,22 @@ impl Names {
         let name = Vec::from_slice(alloc, name)?;
         self.set.insert(name)?;
         Ok(())
+    }
+
+    /// The place of a name, which is added where it is not there.
+    pub fn place_or_push(&mut self, alloc: Global, name: &[u8]) -> Result<usize, AllocError>
+        ensures place { IfOk result (λ p. p ≡ unwrap_or (place_of name.now self.old) (length self.old)) }
+        ensures ok { OnOk result (self.new ≡ with_name self.old name.now) }
+        ensures err { OnErr result (self.new ≡ self.old) }
+    {
+        match self.place(name) {
+            Some(place) => Ok(place),
+            None => {
+                let place = self.len();
+                self.push(alloc, name)?;
+                Ok(place)
+            }
+        }
     }
 
     /// Keeps the first `len` names.
