@@ -9,6 +9,6 @@ mod library;
 mod names;
 
 pub use book::TechBook;
-pub use dies::{DieSpec, DiesFault, Frame, Segment, TermSpec};
+pub use dies::{DieSpec, Dies, DiesFault, Frame, Segment, TermSpec};
 pub use fault::BuildFault;
 pub use grid::Grid;
