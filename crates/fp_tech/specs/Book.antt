@@ -1,6 +1,8 @@
 -- The book of technologies as plain lists, and what each adding call makes of it.
-use Rattle.std.specs.Prelude.{◌≡◌, ℕ, zero, suc, ◌+◌, ◌<◌, ◌≤◌, ◌^◌, Bool, true, false, ◌==◌, nat_le, if◌then◌else◌, List, [], ◌∷◌, ◌++◌, length, map, find, Option, Some, None, is_some, option_map, option_and_then, unwrap_or, slice_get, Result, Ok, Err}
+use Rattle.std.specs.Prelude.{◌≡◌, ℕ, zero, suc, ◌+◌, ◌<◌, ◌≤◌, ◌^◌, Bool, true, false, ◌==◌, nat_le, if◌then◌else◌, List, [], ◌∷◌, ◌++◌, length, map, find, Option, Some, None, is_some, option_map, option_and_then, unwrap_or, slice_get, nat_eq, pos, All, sum_by, Result, Ok, Err}
+use Rattle.std.specs.List.{IsDistinct}
 use Rattle.std.specs.Str.{bytes_eq}
+use Rattle.fp_base.specs.declared.ids.Point.{Point}
 use Rattle.fp_tech.specs.declared.fault.BuildFault.{BuildFault}
 use Rattle.fp_tech.specs.declared.fault.BuildFault.TheVariants.{Twice, Unknown, Limit, Memory}
 
@@ -40,8 +42,19 @@ is_among name names = is_some (place_of name names)
 abbrev pub tech_names : Book → List (List ℕ)
 tech_names book = map (λ tech. tech.name) book.techs
 
+abbrev pub names_of : List Pin → List (List ℕ)
+names_of pins = map (λ pin. pin.name) pins
+
 abbrev pub pin_names : Lib → List (List ℕ)
-pin_names lib = map (λ pin. pin.name) lib.pins
+pin_names lib = names_of lib.pins
+
+-- width and height
+abbrev pub size_of : Lib → ℕ × ℕ
+size_of lib = (lib.width, lib.height)
+
+-- a pin's offset as a point
+abbrev pub offset_of : Pin → Point
+offset_of pin = record { x = pos pin.x; y = pos pin.y }
 
 -- the library cells of a technology; none where it is out of range
 unfoldable pub libs_of : Book → ℕ → List Lib
@@ -50,6 +63,10 @@ libs_of book tech = unwrap_or (option_map (λ t. t.libs) (slice_get book.techs t
 -- a library cell in a technology, where it is there
 unfoldable pub lib_in : Book → ℕ → ℕ → Option Lib
 lib_in book tech id = find (λ lib. lib.id == id) (libs_of book tech)
+
+-- the technology has that library cell
+abbrev pub has : Book → ℕ → ℕ → Bool
+has book tech id = is_some (lib_in book tech id)
 
 -- the numbers of a technology's library cells, in the order of adding
 abbrev pub lib_ids : Book → ℕ → List ℕ
@@ -82,9 +99,13 @@ more_pins id pin lib = if lib.id == id then record lib { pins = lib.pins ++ pin 
 abbrev pub pins_added : ℕ → Pin → Tech → Tech
 pins_added id pin tech = record tech { libs = map (more_pins id pin) tech.libs }
 
+-- a list of names with one that is added where it is not there
+abbrev pub with_name : List (List ℕ) → List ℕ → List (List ℕ)
+with_name names name = if is_among name names then names else names ++ name ∷ []
+
 abbrev pub with_lib : Book → ℕ → List ℕ → ℕ → ℕ → Book
 with_lib book tech name width height = record {
-  names = if is_among name book.names then book.names else book.names ++ name ∷ [];
+  names = with_name book.names name;
   techs = changed_at tech (more_libs (record { id = id_for book name; width = width; height = height; pins = [] })) book.techs;
 }
 
@@ -105,8 +126,11 @@ lib_refusal book tech name = refusal (nat_le 4096 (length (libs_of book tech))) 
 abbrev pub pins_in : Book → ℕ → ℕ → List Pin
 pins_in book tech id = unwrap_or (option_map (λ lib. lib.pins) (lib_in book tech id)) []
 
+abbrev pub pins_refusal : List Pin → List ℕ → Option BuildFault
+pins_refusal pins name = refusal (nat_le 1024 (length pins)) (is_among name (names_of pins)) false
+
 abbrev pub pin_refusal : Book → ℕ → ℕ → List ℕ → Option BuildFault
-pin_refusal book tech id name = refusal (nat_le 1024 (length (pins_in book tech id))) (is_among name (map (λ pin. pin.name) (pins_in book tech id))) false
+pin_refusal book tech id name = pins_refusal (pins_in book tech id) name
 
 -- What an adding call answers and leaves: Ok exactly where nothing refuses, with its answer and the grown value;
 -- a refusal leaves the value as it was, and so does want of memory.
@@ -116,3 +140,27 @@ Adds refused answer old grown (Err Memory) new = new ≡ old
 Adds refused answer old grown (Err Twice) new = (refused ≡ Some Twice) × (new ≡ old)
 Adds refused answer old grown (Err Unknown) new = (refused ≡ Some Unknown) × (new ≡ old)
 Adds refused answer old grown (Err Limit) new = (refused ≡ Some Limit) × (new ≡ old)
+
+-- The limits of a book: at most 16 technologies of 4,096 library cells of 1,024 pins; names that are distinct, sizes from 1 to 2^30,
+-- offsets up to 2^30; and each library cell's name is in the list, which has no other.
+pub record IsLib (names : ℕ) (lib : Lib) : Type 0 where
+  pub named : lib.id < names
+  pub some_width : 1 ≤ lib.width
+  pub width : lib.width ≤ 2 ^ 30
+  pub some_height : 1 ≤ lib.height
+  pub height : lib.height ≤ 2 ^ 30
+  pub few_pins : length lib.pins ≤ 1024
+  pub pins_apart : IsDistinct bytes_eq (pin_names lib)
+  pub offsets : All (λ pin. (pin.x ≤ 2 ^ 30) × (pin.y ≤ 2 ^ 30)) lib.pins
+
+pub record IsTech (names : ℕ) (tech : Tech) : Type 0 where
+  pub few_libs : length tech.libs ≤ 4096
+  pub libs_apart : IsDistinct nat_eq (map (λ lib. lib.id) tech.libs)
+  pub libs : All (IsLib names) tech.libs
+
+pub record IsBook (book : Book) : Type 0 where
+  pub few_techs : length book.techs ≤ 16
+  pub techs_apart : IsDistinct bytes_eq (tech_names book)
+  pub names_apart : IsDistinct bytes_eq book.names
+  pub names_used : length book.names ≤ sum_by (λ tech. length tech.libs) book.techs
+  pub techs : All (IsTech (length book.names)) book.techs

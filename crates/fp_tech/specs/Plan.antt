@@ -1,10 +1,12 @@
 -- The two dies with their technologies, the frame and the terminal.
-use Rattle.std.specs.Prelude.{◌≡◌, ℕ, ◌+◌, ◌*◌, ◌<◌, ◌≤◌, ◌^◌, Bool, true, false, ◌&&◌, nat_le, List, length, Result, Ok, Err}
+use Rattle.std.specs.Prelude.{◌≡◌, ℕ, ◌+◌, ◌*◌, ◌<◌, ◌≤◌, ◌^◌, Bool, true, false, ◌&&◌, nat_le, pos, List, length, map, Result, Ok, Err}
+use Rattle.std.specs.List.{range_with_len}
 use Rattle.fp_base.specs.declared.ids.Die.{Die}
 use Rattle.fp_base.specs.declared.ids.Die.TheVariants.{Top, Bottom}
 use Rattle.fp_tech.specs.declared.dies.Frame.{Frame}
 use Rattle.fp_tech.specs.declared.dies.DieSpec.{DieSpec}
 use Rattle.fp_tech.specs.declared.dies.TermSpec.{TermSpec}
+use Rattle.fp_tech.specs.declared.dies.Segment.{Segment}
 use Rattle.fp_tech.specs.declared.dies.DiesFault.{DiesFault}
 use Rattle.fp_tech.specs.declared.dies.DiesFault.TheVariants.{RowsOutside, Memory}
 use Rattle.fp_tech.specs.Book.{Book}
@@ -57,6 +59,18 @@ abbrev pub rows_lie : Frame → DieSpec → Bool
 rows_lie frame spec =
     nat_le frame.llx spec.start_x && (nat_le (spec.start_x + spec.length) frame.urx
     && (nat_le frame.lly spec.start_y && nat_le (spec.start_y + spec.height * spec.repeat) frame.ury))
+
+-- a row's place: rows are stacked upwards from the start by the row height
+abbrev pub row_at : DieSpec → ℕ → Segment
+row_at spec i = record { y = pos (spec.start_y + i * spec.height); start = pos spec.start_x; length = pos spec.length }
+
+-- the rows of a die from the lowest up
+abbrev pub rows_of : DieSpec → List Segment
+rows_of spec = map (row_at spec) (range_with_len 0 spec.repeat)
+
+-- the segments of a die, where cells stand: each row is one, numbered upwards from 0
+unfoldable pub segments : Plan → Die → List Segment
+segments plan die = rows_of (spec_of plan die)
 
 -- what every value of dies keeps
 pub record IsPlan (plan : Plan) : Type 0 where

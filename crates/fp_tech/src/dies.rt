@@ -1,6 +1,13 @@
 //! The two dies: their frame, their rows, and the terminal that joins them.
 
+ghost use Rattle.std.specs.Prelude.{◌≡◌, ◌+◌, ◌*◌, ◌≤◌, ◌<◌, ◌^◌, IfOk};
+ghost use Rattle.fp_tech.specs.Plan.{Plan, spec_of, rows_lie, rows_of, row_at, segments, IsSetup, IsDieSpec, IsPlan, Makes};
+
+use crate::book::TechBook;
 use fp_base::{Die, TechId};
+use std::alloc::{AllocError, Global};
+use std::marker::Model;
+use thiserror::Error;
 
 /// The rectangle of both dies, by its lower left and its upper right corner, in the input's units up to 2^30.
 #[derive(Clone, Copy, Debug, PartialEq, Eq)]
@@ -41,10 +48,167 @@ pub struct Segment {
 }
 
 /// Why dies could not be made.
-#[derive(Clone, Copy, Debug, PartialEq, Eq)]
+#[derive(Clone, Copy, Debug, PartialEq, Eq, Error)]
 pub enum DiesFault {
     /// The rows of this die leave the frame; the top die is tried first.
+    #[error("the rows of the die {0:?} leave the frame")]
     RowsOutside(Die),
     /// Memory was asked for and refused.
+    #[error("out of memory")]
     Memory,
+}
+
+impl From<AllocError> for DiesFault {
+    ghost use Rattle.fp_tech.specs.declared.dies.DiesFault.TheVariants.{Memory};
+
+    ghost from_gives = { λ _ fault. fault ≡ Memory };
+
+    fn from(_error: AllocError) -> DiesFault {
+        DiesFault::Memory
+    }
+}
+
+/// The two dies with their technologies, in one frame and with one kind of terminal, and the segments of their rows.
+#[derive(Drop)]
+pub struct Dies {
+    book: TechBook,
+    frame: Frame,
+    top: DieSpec,
+    bottom: DieSpec,
+    terminal: TermSpec,
+    top_segments: Vec<Segment>,
+    bottom_segments: Vec<Segment>,
+}
+
+impl Model for Dies {
+    ghost use Rattle.fp_tech.specs.Plan.{Plan};
+
+    ghost Value = { Plan };
+
+    ghost use Rattle.fp_tech.specs.KeptDies.{plan_of, IsKeptPlan};
+
+    ghost view = { plan_of };
+
+    ghost invariant = { IsKeptPlan };
+}
+
+impl Dies {
+    /// Dies of a book, a frame, the specification of each die, and a terminal, all within the input's ranges, and the
+    /// dies' technologies in the book. `RowsOutside` exactly where a die's rows leave the frame, the top die first.
+    /// A refusal drops the book.
+    pub fn new(
+        alloc: Global,
+        book: TechBook,
+        frame: Frame,
+        top: DieSpec,
+        bottom: DieSpec,
+        terminal: TermSpec,
+    ) -> Result<Dies, DiesFault>
+        requires { IsSetup (record { book = book; frame = frame; top = top; bottom = bottom; terminal = terminal }) }
+        ensures {
+            Makes (record { book = book; frame = frame; top = top; bottom = bottom; terminal = terminal }) result
+        }
+    {
+        if !rows_lie(frame, top) {
+            return Err(DiesFault::RowsOutside(Die::Top));
+        }
+        if !rows_lie(frame, bottom) {
+            return Err(DiesFault::RowsOutside(Die::Bottom));
+        }
+        let top_segments = rows_of(alloc, top)?;
+        let bottom_segments = rows_of(alloc, bottom)?;
+        Ok(Dies {
+            book,
+            frame,
+            top,
+            bottom,
+            terminal,
+            top_segments,
+            bottom_segments,
+        })
+    }
+
+    /// The technologies.
+    pub fn book(&self) -> &TechBook
+        ensures book { result.now ≡ self.now.book }
+        ensures plan { IsPlan self.now }
+    {
+        &self.book
+    }
+
+    /// The frame of both dies.
+    pub fn frame(&self) -> Frame
+        ensures frame { result ≡ self.now.frame }
+        ensures plan { IsPlan self.now }
+    {
+        self.frame
+    }
+
+    /// A die as it was given.
+    pub fn spec(&self, die: Die) -> DieSpec
+        ensures spec { result ≡ spec_of self.now die }
+        ensures plan { IsPlan self.now }
+    {
+        match die {
+            Die::Top => self.top,
+            Die::Bottom => self.bottom,
+        }
+    }
+
+    /// The terminal.
+    pub fn terminal(&self) -> TermSpec
+        ensures terminal { result ≡ self.now.terminal }
+        ensures plan { IsPlan self.now }
+    {
+        self.terminal
+    }
+
+    /// The segments of a die, numbered upwards from 0: each is one row.
+    pub fn segments_of(&self, die: Die) -> &[Segment]
+        ensures segments { result.now ≡ segments self.now die }
+        ensures plan { IsPlan self.now }
+    {
+        match die {
+            Die::Top => self.top_segments.as_slice(),
+            Die::Bottom => self.bottom_segments.as_slice(),
+        }
+    }
+}
+
+// Whether a die's rows lie in the frame.
+fn rows_lie(frame: Frame, spec: DieSpec) -> bool
+    requires start { spec.start_x + spec.length ≤ 2 ^ 31 }
+    requires repeat { spec.repeat ≤ 2 ^ 16 }
+    ensures { result ≡ rows_lie frame spec }
+{
+    let right = spec.start_x + spec.length;
+    let upper = u64::from(spec.start_y) + u64::from(spec.height) * u64::from(spec.repeat);
+    frame.llx <= spec.start_x
+        && right <= frame.urx
+        && frame.lly <= spec.start_y
+        && upper <= u64::from(frame.ury)
+}
+
+// The rows of a die from the lowest up.
+fn rows_of(alloc: Global, spec: DieSpec) -> Result<Vec<Segment>, AllocError>
+    requires repeat { spec.repeat ≤ 2 ^ 16 }
+    ensures { IfOk result (λ rows. rows.items ≡ rows_of spec) }
+{
+    let mut rows = Vec::with_capacity(alloc, spec.repeat as usize)?;
+    for row in 0..spec.repeat {
+        rows.push(row_at(spec, row))?;
+    }
+    Ok(rows)
+}
+
+fn row_at(spec: DieSpec, row: u32) -> Segment
+    requires { row < 2 ^ 16 }
+    ensures { result ≡ row_at spec row }
+{
+    let y = u64::from(spec.start_y) + u64::from(row) * u64::from(spec.height);
+    Segment {
+        y: y as i64,
+        start: i64::from(spec.start_x),
+        length: i64::from(spec.length),
+    }
 }

@@ -4,7 +4,7 @@ ghost use Rattle.std.specs.Prelude.{◌≡◌, ℕ, ◌+◌, ◌*◌, ◌<◌, �
 ghost use Rattle.fp_tech.specs.Plan.{IsFrame, IsTermSpec};
 ghost use Rattle.fp_tech.specs.Slots.{Slots, margin, axis_count, pitch_x, pitch_y, across, up, slot_count, slot_limit, centre_of, grid_with, IsGrid, IsLeast, CountsAreExact, KeepsEdges, AreApart};
 
-use crate::dies::{Frame, TermSpec};
+use crate::dies::{Dies, Frame, TermSpec};
 use fp_base::{Point, SlotId};
 use std::alloc::AllocError;
 use std::marker::Model;
@@ -50,6 +50,22 @@ impl Clone for Grid {
 impl Copy for Grid {}
 
 impl Grid {
+    /// The grid of dies: of their frame and terminal. Its slots keep the contest's rules of distance from the edges and
+    /// from each other.
+    pub fn of(dies: &Dies) -> Grid
+        ensures grid { IsGrid dies.now.frame dies.now.terminal result }
+        ensures counts { CountsAreExact result }
+        ensures edges {
+            (s : ℕ) → s < slot_count result → KeepsEdges dies.now.frame dies.now.terminal (centre_of result s)
+        }
+        ensures apart {
+            (s t : ℕ) → s < t → t < slot_count result
+            → AreApart dies.now.terminal (centre_of result s) (centre_of result t)
+        }
+    {
+        grid_of(dies.frame(), dies.terminal())
+    }
+
     /// The number of slots, at most 2^20.
     pub fn slots(&self) -> u32
         ensures count { result ≡ slot_count self.now }
@@ -84,7 +100,7 @@ fn place(first: u32, step: u64, steps: u32) -> i64
 }
 
 // The grid of a frame and a terminal.
-pub(crate) fn grid_of(frame: Frame, terminal: TermSpec) -> Grid
+fn grid_of(frame: Frame, terminal: TermSpec) -> Grid
     requires frame { IsFrame frame }
     requires terminal { IsTermSpec terminal }
     ensures grid { IsGrid frame terminal result }

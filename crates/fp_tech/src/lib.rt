@@ -1,10 +1,14 @@
 //! Technologies, the two dies with their rows, and the grid of slots for terminals.
 #![tactic(auto)]
 
+mod book;
 mod dies;
 mod fault;
 mod grid;
+mod library;
+mod names;
 
-pub use dies::{DieSpec, DiesFault, Frame, Segment, TermSpec};
+pub use book::TechBook;
+pub use dies::{DieSpec, Dies, DiesFault, Frame, Segment, TermSpec};
 pub use fault::BuildFault;
 pub use grid::Grid;

@@ -1,0 +1,19 @@
+use Rattle.std.proofs.Common.{rules, ◌≡◌, ◌<◌, ◌≤◌, ◌^◌, ◌∙◌, refl, ap, sym, Some, length, slice_get, arith}
+use Rattle.std.specs.Option.{option_map}
+use Rattle.std.proofs.lemmas.Grind.{common_steps}
+use Rattle.fp_tech.specs.Book.{tech_names, libs_of, place_of}
+use Rattle.fp_tech.proofs.BookLemmas.{seen}
+use Rattle.fp_tech.proofs.book.TechBook.tech_named.Goals as goal
+
+pub overflow_cast-result : goal.overflow_cast-result
+overflow_cast-result c =
+    let s = seen _ _ _ _ c.self.invariant c.self.view_is in omega (arith, s.as_many, s.few, c.in_ok-place.ensures.within)
+
+pub returns-in_err-place : goal.returns-in_err-place
+returns-in_err-place c =
+    let s = seen _ _ _ _ c.self.invariant c.self.view_is in rw (← s.techs_are) (search rules)
+
+pub returns : goal.returns
+returns c =
+    let s = seen _ _ _ _ c.self.invariant c.self.view_is in
+    ap (option_map (λ tech. record { 0 = tech })) (c.in_ok-place.ensures.place ∙ ap (place_of c.args.name.now) s.techs_are)

@@ -1,0 +1,86 @@
+//! Names in the order of adding, which are found by hashing.
+
+ghost use Rattle.std.specs.Prelude.{◌≡◌, ◌+◌, ◌<◌, ◌++◌, ◌∷◌, [], None, length, take, slice_get, Some, unwrap_or, IfOk, IfSome, OnOk, OnErr};
+ghost use Rattle.fp_tech.specs.Book.{place_of, with_name};
+
+use indexmap::IndexSet;
+use std::alloc::{AllocError, Global};
+use std::marker::Model;
+
+/// Names in the order of adding.
+#[derive(Drop)]
+pub struct Names {
+    set: IndexSet<Vec<u8>>,
+}
+
+impl Model for Names {
+    ghost use Rattle.std.specs.Prelude.{List, ℕ, map};
+
+    ghost Value = { List (List ℕ) };
+
+    ghost view = { λ n. map (λ name. name.items) n.set.keys };
+}
+
+impl Names {
+    pub fn new(alloc: Global) -> Names
+        ensures { result ≡ [] }
+    {
+        Names {
+            set: IndexSet::new(alloc),
+        }
+    }
+
+    pub fn len(&self) -> usize
+        ensures { result ≡ length self.now }
+    {
+        self.set.len()
+    }
+
+    pub fn name(&self, place: usize) -> &[u8]
+        requires { place < length self.now }
+        ensures { slice_get self.now place ≡ Some result.now }
+    {
+        self.set.as_slice()[place].as_slice()
+    }
+
+    pub fn place(&self, name: &[u8]) -> Option<usize>
+        ensures place { result ≡ place_of name.now self.now }
+        ensures within { IfSome result (λ p. p < length self.now) }
+    {
+        self.set.get_index_of(name)
+    }
+
+    /// Adds a name that is not there.
+    pub fn push(&mut self, alloc: Global, name: &[u8]) -> Result<(), AllocError>
+        requires { place_of name.now self.old ≡ None }
+        ensures ok { OnOk result (self.new ≡ self.old ++ name.now ∷ []) }
+        ensures err { OnErr result (self.new ≡ self.old) }
+    {
+        let name = Vec::from_slice(alloc, name)?;
+        self.set.insert(name)?;
+        Ok(())
+    }
+
+    /// The place of a name, which is added where it is not there.
+    pub fn place_or_push(&mut self, alloc: Global, name: &[u8]) -> Result<usize, AllocError>
+        ensures place { IfOk result (λ p. p ≡ unwrap_or (place_of name.now self.old) (length self.old)) }
+        ensures ok { OnOk result (self.new ≡ with_name self.old name.now) }
+        ensures err { OnErr result (self.new ≡ self.old) }
+    {
+        match self.place(name) {
+            Some(place) => Ok(place),
+            None => {
+                let place = self.len();
+                self.push(alloc, name)?;
+                Ok(place)
+            }
+        }
+    }
+
+    /// Keeps the first `len` names.
+    pub fn truncate(&mut self, len: usize)
+        ensures { self.new ≡ take len self.old }
+    {
+        self.set.truncate(len);
+    }
+}
