@@ -1,11 +1,11 @@
 -- Calls of a writer one after the other.
 use Rattle.std.specs.Prelude.{◌≡◌, ℕ, ◌≤◌, Bool, true, false, List, [], ◌++◌, Option, Some, None, option_map, unwrap_or}
 use Rattle.std.proofs.Common.{refl, sym, ap, ◌∙◌, arith, inl, inr}
-use Rattle.std.proofs.lemmas.Bool.{cases_Bool, both_ways}
+use Rattle.std.proofs.lemmas.Bool.{cases_Bool, both_ways, cond-false}
 use Rattle.fp_base.specs.Files.{Files, bytes_of, sets_file, followed_by, OthersStay}
 use Rattle.fp_base.specs.FilesLaws.{bytes_set, is_set, others_refl, others_then, rose_later, rose_since, followed_none, followed_then}
 use Rattle.fp_base.specs.Faults.{Rose}
-use Rattle.fp_text.specs.Writing.{Waiting, Told, text_of, so_far, Starts, Adds, Finishes}
+use Rattle.fp_text.specs.Writing.{Waiting, Told, text_of, so_far, GoesOn, Starts, Adds, Finishes}
 
 -- the text of a name that was set
 pub text-set : (name : List ℕ) (change : List ℕ → List ℕ) (old new : Told) → new.held ≡ sets_file name change old.held → text_of name new ≡ option_map change (text_of name old)
@@ -52,6 +52,14 @@ adds_then name first second one two three u v w p q = record {
   made = q.made ∙ p.made;
   later = let le : one.faults ≤ two.faults = p.later in let le' : two.faults ≤ three.faults = q.later in omega arith;
 }
+
+-- a new writer may go on, and so may each one that was called
+pub goes_on_start : (name : List ℕ) (old new : Told) (writer : Waiting) → Starts name old new writer → GoesOn name new writer
+goes_on_start name old new writer start = λ running. start.made ∙ cond-false writer.failed None (Some name) running
+
+pub goes_on_then : (name piece : List ℕ) (one two : Told) (u v : Waiting) → Adds name piece one two u v → GoesOn name one u → GoesOn name two v
+goes_on_then name piece one two u v p before = λ running.
+    p.made ∙ before (elim (cases_Bool u.failed) [ inl failed ↦ absurd (both_ways _ running (p.stays_failed failed)) | inr ran ↦ ran ])
 
 -- what waits is appended
 pub adds_flush : (name : List ℕ) (old new : Told) (before after : Waiting) → before.failed ≡ false → after ≡ record { bytes = []; failed = false }

@@ -12,3 +12,6 @@ pub use fault::{Kind, TextFault};
 pub use numbers::{NumberFault, number, signed};
 pub use whole::{WholeFault, read_whole};
 pub use writing::Writer;
+
+#[cfg(test)]
+mod tests;

@@ -35,8 +35,9 @@ impl Model for Writer {
 impl Writer {
     /// Creates the name, and a writer of its bytes.
     pub fn new<F: Folder>(folder: &mut F, name: &str) -> Writer
-        ensures { Starts name.now (told F.held F.made F.faults folder.old)
+        ensures starts { Starts name.now (told F.held F.made F.faults folder.old)
             (told F.held F.made F.faults folder.new) result }
+        ensures goes_on { GoesOn name.now (told F.held F.made F.faults folder.new) result }
     {
         Writer {
             buffer: [0; ROOM],
@@ -50,6 +51,7 @@ impl Writer {
         requires { GoesOn name.now (told F.held F.made F.faults folder.old) self.old }
         ensures adds { Adds name.now piece.now (told F.held F.made F.faults folder.old)
             (told F.held F.made F.faults folder.new) self.old self.new }
+        ensures goes_on { GoesOn name.now (told F.held F.made F.faults folder.new) self.new }
         ensures idle { self.old.failed ≡ true → folder.new ≡ folder.old }
     {
         if self.stopped {
@@ -121,6 +123,7 @@ impl Writer {
         requires { GoesOn name.now (told F.held F.made F.faults folder.old) self.old }
         ensures adds { Adds name.now (decimal value) (told F.held F.made F.faults folder.old)
             (told F.held F.made F.faults folder.new) self.old self.new }
+        ensures goes_on { GoesOn name.now (told F.held F.made F.faults folder.new) self.new }
         ensures idle { self.old.failed ≡ true → folder.new ≡ folder.old }
     {
         let mut digits = Buffer::new();
@@ -132,6 +135,7 @@ impl Writer {
         requires { GoesOn name.now (told F.held F.made F.faults folder.old) self.old }
         ensures adds { Adds name.now (signed_decimal value) (told F.held F.made F.faults folder.old)
             (told F.held F.made F.faults folder.new) self.old self.new }
+        ensures goes_on { GoesOn name.now (told F.held F.made F.faults folder.new) self.new }
         ensures idle { self.old.failed ≡ true → folder.new ≡ folder.old }
     {
         let mut digits = Buffer::new();
