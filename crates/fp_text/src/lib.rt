@@ -1,4 +1,5 @@
-//! Tokens, numbers and names of a text, reading a grammar up to its first fault, whole files, and a writer of files.
+//! Tokens, numbers and names of a text, reading a grammar up to its first fault, whole files, and a
+//! writer of files.
 #![tactic(auto)]
 
 mod cursor;

@@ -67,7 +67,8 @@ impl Writer {
         requires made { F.made folder.old ≡ Some name.now }
         ensures adds { Adds name.now [] (told F.held F.made F.faults folder.old)
             (told F.held F.made F.faults folder.new) self.old self.new }
-        ensures room { 4096 < length self.new.bytes + needed → self.new.failed ≡ false → self.new.bytes ≡ [] }
+        ensures room { 4096 < length self.new.bytes + needed → self.new.failed ≡ false
+            → self.new.bytes ≡ [] }
     {
         if needed > ROOM - self.used {
             self.flush(folder, name);
@@ -91,7 +92,8 @@ impl Writer {
     /// Adds a piece that fits, or behind which nothing waits.
     fn add<F: Folder>(&mut self, folder: &mut F, name: &str, piece: &[u8])
         requires made { self.old.failed ≡ false → F.made folder.old ≡ Some name.now }
-        requires room { 4096 < length self.old.bytes + length piece.now → self.old.failed ≡ false → self.old.bytes ≡ [] }
+        requires room { 4096 < length self.old.bytes + length piece.now → self.old.failed ≡ false
+            → self.old.bytes ≡ [] }
         ensures adds { Adds name.now piece.now (told F.held F.made F.faults folder.old)
             (told F.held F.made F.faults folder.new) self.old self.new }
     {
@@ -111,7 +113,8 @@ impl Writer {
     /// Keeps a piece that fits.
     fn keep(&mut self, piece: &[u8])
         requires { length self.old.bytes + length piece.now ≤ 4096 }
-        ensures { self.new ≡ record { bytes = self.old.bytes ++ piece.now; failed = self.old.failed } }
+        ensures { self.new
+            ≡ record { bytes = self.old.bytes ++ piece.now; failed = self.old.failed } }
     {
         let end = self.used + piece.len();
         self.buffer[self.used..end].copy_from_slice(piece);
