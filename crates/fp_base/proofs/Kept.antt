@@ -1,5 +1,5 @@
 -- What the places of files in memory keep.
-use Rattle.std.proofs.Common.{◌≡◌, ℕ, ◌+◌, ◌<◌, ◌≤◌, Bool, true, false, cond, List, [], ◌∷◌, ◌++◌, length, Option, Some, None, get_or, set, ltb, leb, refl, sym, ap, ◌∙◌, arith, length-append}
+use Rattle.std.proofs.Common.{◌≡◌, ℕ, ◌+◌, ◌<◌, ◌≤◌, Bool, true, false, List, [], ◌∷◌, ◌++◌, length, Some, None, get_or, set, refl, sym, ap, ◌∙◌, arith, length-append}
 use Rattle.std.specs.Prelude.{position, IsSome, is_some, nat_le, nat_lt, All, unwrap_or}
 use Rattle.std.specs.FinMap.{len, len-empty}
 use Rattle.std.specs.Ordering.{nat_cmp}
@@ -24,7 +24,11 @@ table used most room = record { files = files_of used; most = most; room = room 
 pub kept_none : (spare : List MemFile) (capacity most room : ℕ) → length spare ≡ most → most ≤ capacity → All (HasRoom room) spare
     → AreKept [] spare capacity most room
 kept_none spare capacity most room count fits roomy = record {
-  places = omega arith; within = fits; used_room = All-nil (HasRoom room); spare_room = roomy; apart = len-empty (slice_cmp nat_cmp) (List ℕ);
+  places = omega arith;
+  within = fits;
+  used_room = All-nil (HasRoom room);
+  spare_room = roomy;
+  apart = len-empty (slice_cmp nat_cmp) (List ℕ);
 }
 
 -- the first file of a name given other bytes
@@ -39,8 +43,8 @@ kept_set used spare capacity most room name bytes i place kept =
       used_room = All-set (HasRoom room) used i _ (All-get_or (HasRoom room) used i no_file here.0 kept.used_room) kept.used_room;
       spare_room = kept.spare_room;
       apart = ap len (files_set used name bytes no_file i place)
-        ∙ count_held (files_of used) name bytes (ap is_some (bytes_found used name no_file i place))
-        ∙ kept.apart ∙ sym (length-set used i _);
+          ∙ count_held (files_of used) name bytes (ap is_some (bytes_found used name no_file i place))
+          ∙ kept.apart ∙ sym (length-set used i _);
     }
 
 -- where a place is spare, the list of files in use has room for one more
@@ -61,8 +65,8 @@ kept_push used spare rest new capacity wider most room f name bytes popped pushe
       used_room = All-push (HasRoom room) used (filled f name bytes) kept.used_room parts.1;
       spare_room = parts.0;
       apart = ap len (files_push used (filled f name bytes) name bytes none refl refl)
-        ∙ count_new (files_of used) name bytes none
-        ∙ ap (λ n. n + 1) kept.apart ∙ sym (length-append used (filled f name bytes ∷ []));
+          ∙ count_new (files_of used) name bytes none
+          ∙ ap (λ n. n + 1) kept.apart ∙ sym (length-append used (filled f name bytes ∷ []));
     })
 
 -- the files in use after an append

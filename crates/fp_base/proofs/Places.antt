@@ -1,10 +1,10 @@
 -- Files in memory, found and changed by their names.
-use Rattle.std.proofs.Common.{◌≡◌, ◌≢◌, ℕ, suc, zero, ◌+◌, ◌<◌, ◌≤◌, Bool, true, false, cond, List, [], ◌∷◌, ◌++◌, length, map, Option, Some, None, get_or, set, ltb, not, refl, sym, ap, ◌∙◌, arith}
+use Rattle.std.proofs.Common.{◌≡◌, ℕ, suc, zero, ◌+◌, ◌<◌, ◌≤◌, Bool, true, false, cond, List, [], ◌∷◌, ◌++◌, length, map, Some, None, get_or, set, ltb, refl, sym, ap, ◌∙◌, arith}
 use Rattle.std.specs.Prelude.{position, IsSome, is_some}
 use mathlib.Core.Bool.{true≢false}
 use Rattle.std.specs.Ordering.{nat_cmp, eq_by_cmp}
 use Rattle.std.specs.Cmp.Lexicographic.{slice_cmp, nat_list_cmp_total}
-use Rattle.std.specs.FinMap.{find, get, len, from_entries, insert, get-insert, get-from_entries, same_map, len-insert, from_entries_push, nat_cmp-IsAntisymmetric, slice_cmp-IsAntisymmetric}
+use Rattle.std.specs.FinMap.{find, len, from_entries, get-insert, get-from_entries, same_map, len-insert, from_entries_push, nat_cmp-IsAntisymmetric, slice_cmp-IsAntisymmetric}
 use Rattle.std.specs.Str.{bytes_eq}
 use Rattle.std.proofs.lemmas.Slice.Eq.{bytes_eq-Decides}
 use Rattle.std.proofs.lemmas.Map.Text.{is_eq-slice_cmp}
@@ -61,10 +61,10 @@ pub files_set : (files : List MemFile) (name bytes : List ℕ) (d : MemFile) (i 
 files_set files name bytes d i e =
     let here = position-Some (λ (f : MemFile). bytes_eq name f.name.bytes) files i d e in
     same_map nat_list_cmp_total (slice_cmp-IsAntisymmetric nat_cmp-IsAntisymmetric) _ _ (λ q.
-      get-from_entries nat_list_cmp_total (map entry_of (set files i (with_bytes (get_or files i d) bytes))) q
-      ∙ find_first name bytes q d files i here.0 here.1 here.2
-      ∙ ap (cond (Same q name) (Some bytes)) (sym (get-from_entries nat_list_cmp_total (map entry_of files) q))
-      ∙ sym (get-insert nat_list_cmp_total (files_of files) name bytes q))
+    get-from_entries nat_list_cmp_total (map entry_of (set files i (with_bytes (get_or files i d) bytes))) q
+    ∙ find_first name bytes q d files i here.0 here.1 here.2
+    ∙ ap (cond (Same q name) (Some bytes)) (sym (get-from_entries nat_list_cmp_total (map entry_of files) q))
+    ∙ sym (get-insert nat_list_cmp_total (files_of files) name bytes q))
 
 -- a look-up, by the first file of the name
 find_found : (name : List ℕ) (d : MemFile) (files : List MemFile) (i : ℕ) → i < length files
@@ -93,6 +93,7 @@ find_none name (f ∷ fs) past = by_test (bytes_eq name f.name.bytes) refl (λ l
   where
     rest : bytes_eq name f.name.bytes ≡ false → length fs ≤ position_or_len (λ f. bytes_eq name f.name.bytes) fs
     rest e = let less = rw e at past in omega (arith, less)
+
     by_test : (b : Bool) → bytes_eq name f.name.bytes ≡ b
         → (length fs ≤ position_or_len (λ f. bytes_eq name f.name.bytes) fs → find (slice_cmp nat_cmp) name (map entry_of fs) ≡ None)
         → find (slice_cmp nat_cmp) name (map entry_of (f ∷ fs)) ≡ None

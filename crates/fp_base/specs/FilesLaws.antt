@@ -1,5 +1,5 @@
 -- What callers of a folder or a sink need: calls after one another, and one name changed among others.
-use Rattle.std.specs.Prelude.{◌≡◌, ◌≢◌, ℕ, ◌+◌, ◌-◌, ◌^◌, ◌≤◌, min, nat_lt, if◌then◌else◌, Bool, true, false, cond, List, [], ◌++◌, length, take, Option, Some, None, IsSome, is_some, option_map, unwrap_or, refl}
+use Rattle.std.specs.Prelude.{◌≡◌, ◌≢◌, ℕ, ◌+◌, ◌≤◌, Bool, true, false, cond, List, [], ◌++◌, length, take, Option, Some, None, IsSome, is_some, unwrap_or, refl}
 use Rattle.std.proofs.Common.{sym, ◌∙◌, ap, arith, append_assoc, length-append}
 use Rattle.std.proofs.Math.Seq.{take-length, take-append-add}
 use Rattle.std.proofs.lemmas.List.{append-nil, take-append-le}
@@ -58,10 +58,10 @@ pub set_twice : (files : Files) (name first second : List ℕ)
     → with_file (with_file files name first) name second ≡ with_file files name second
 set_twice files name first second =
     same_map nat_list_cmp_total (slice_cmp-IsAntisymmetric nat_cmp-IsAntisymmetric) _ _ (λ other.
-      get-insert nat_list_cmp_total (with_file files name first) name second other
-      ∙ ap (cond (Same other name) (Some second)) (get-insert nat_list_cmp_total files name first other)
-      ∙ hidden (Same other name) (Some second) (Some first) (bytes_of files other)
-      ∙ sym (get-insert nat_list_cmp_total files name second other))
+    get-insert nat_list_cmp_total (with_file files name first) name second other
+    ∙ ap (cond (Same other name) (Some second)) (get-insert nat_list_cmp_total files name first other)
+    ∙ hidden (Same other name) (Some second) (Some first) (bytes_of files other)
+    ∙ sym (get-insert nat_list_cmp_total files name second other))
   where
     hidden : (b : Bool) (x y z : Option (List ℕ)) → cond b x (cond b y z) ≡ cond b x z
     hidden true x y z = refl
@@ -91,7 +91,7 @@ pub is_set : (old new : Files) (name bytes : List ℕ) → OthersStay name (Some
     → new ≡ with_file old name bytes
 is_set old new name bytes stay holds =
     same_map nat_list_cmp_total (slice_cmp-IsAntisymmetric nat_cmp-IsAntisymmetric) _ _ (λ other.
-      by_test other (Same other name) refl ∙ sym (get-insert nat_list_cmp_total old name bytes other))
+    by_test other (Same other name) refl ∙ sym (get-insert nat_list_cmp_total old name bytes other))
   where
     by_test : (other : List ℕ) (b : Bool) → Same other name ≡ b → bytes_of new other ≡ cond b (Some bytes) (bytes_of old other)
     by_test other true e = ap (bytes_of new) (same_name other name e) ∙ holds
@@ -104,7 +104,7 @@ set_then name first second None = refl
 set_then name first second (Some files) =
     let bytes : List ℕ = first (unwrap_or (bytes_of files name) []) in
     ap Some (ap (λ o. with_file (with_file files name bytes) name (second (unwrap_or o []))) (bytes_set files name bytes)
-      ∙ set_twice files name bytes (second bytes))
+    ∙ set_twice files name bytes (second bytes))
 
 -- a count that rose has risen later too
 pub rose_later : (before after later : ℕ) → Rose before after → after ≤ later → Rose before later
@@ -149,7 +149,8 @@ front_of_first first second old new front =
 -- a front of the second piece behind the first is one of both
 pub front_of_second : (first second : List ℕ) (old new : Option (List ℕ)) → FrontFollows second (followed_by first old) new
     → FrontFollows (first ++ second) old new
-front_of_second first second old new front =
-    (length first + front.0,
-      simp length-append (omega (arith, front.1)),
-      front.2 ∙ followed_then first (take front.0 second) old ∙ ap (λ p. followed_by p old) (sym (take-append-add first second front.0)))
+front_of_second first second old new front = (
+  length first + front.0,
+  simp length-append (omega (arith, front.1)),
+  front.2 ∙ followed_then first (take front.0 second) old ∙ ap (λ p. followed_by p old) (sym (take-append-add first second front.0)),
+)

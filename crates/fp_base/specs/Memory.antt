@@ -1,5 +1,5 @@
 -- What a folder and a sink in memory are, and what each call makes of them.
-use Rattle.std.specs.Prelude.{◌≡◌, ℕ, ◌+◌, ◌-◌, ◌==◌, nat_lt, nat_le, min, Bool, not, ◌&&◌, ◌||◌, if◌then◌else◌, List, [], ◌++◌, length, take, Option, Some, None, unwrap_or, Result, Ok, Err, refl}
+use Rattle.std.specs.Prelude.{ℕ, ◌+◌, ◌-◌, ◌==◌, nat_lt, nat_le, min, Bool, not, ◌&&◌, ◌||◌, if◌then◌else◌, List, [], ◌++◌, length, take, Option, Some, None, unwrap_or, Result, Ok, Err, refl}
 use Rattle.std.specs.Coded.{Coded, code_by, coded×, coded_ℕ, coded_list, coded_option}
 use Rattle.std.specs.List.{list_any}
 use Rattle.std.specs.FinMap.{contains_key, len, code}
@@ -98,7 +98,8 @@ can_append folder name piece = not (is_due folder.calls) && nat_le (length (byte
 abbrev pub appended : FolderState → List ℕ → List ℕ → FolderState
 appended folder name piece = record folder {
   table = holding folder.table name (bytes_under folder.table name ++ piece);
-  calls = counted folder.calls }
+  calls = counted folder.calls;
+}
 
 -- after an `append` or a read that failed
 abbrev pub call_failed : FolderState → FolderState

@@ -1,6 +1,6 @@
 -- How files in memory are kept.
 use Rattle.std.specs.Prelude.{◌≡◌, ◌≤◌, ◌+◌, ℕ, List, [], map, length, vec_capacity, All}
-use Rattle.std.specs.FinMap.{FinMap, from_entries, len}
+use Rattle.std.specs.FinMap.{from_entries, len}
 use Rattle.fp_base.specs.declared.file_table.MemFile.{MemFile}
 use Rattle.fp_base.specs.declared.file_table.FileTable.TheInside.{Inside}
 use Rattle.fp_base.specs.Files.{Files}

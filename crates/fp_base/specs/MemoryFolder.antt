@@ -1,5 +1,5 @@
 -- How a folder in memory is kept.
-use Rattle.std.specs.Prelude.{◌≡◌, ◌≤◌, List, ℕ, Option, Some, None, IsSome, true, if◌then◌else◌}
+use Rattle.std.specs.Prelude.{◌≡◌, Some, None, IsSome, true, if◌then◌else◌}
 use Rattle.fp_base.specs.declared.mem_folder.MemFolder.TheInside.{Inside}
 use Rattle.fp_base.specs.Files.{bytes_of}
 use Rattle.fp_base.specs.Memory.{FolderState}

@@ -63,7 +63,7 @@ impl CallCount {
     pub fn fail(&mut self)
         ensures { self.new ≡ failed self.old }
     {
-        self.so_far = risen(self.so_far);
+        self.count();
         self.faults = risen(self.faults);
     }
 }

@@ -5,11 +5,11 @@ ghost use Rattle.fp_base.specs.Faults.{one_more};
 
 use crate::buffer::Buffer;
 use crate::call_count::risen;
+use crate::device::{read_some, write_whole};
 use crate::folder::{Failed, Folder, NoMemory, ReadFault};
 use std::alloc::Global;
 use std::fs;
-
-use std::io::{ErrorKind, Read, Seek, SeekFrom, Write};
+use std::io::{ErrorKind, Seek, SeekFrom};
 use std::marker::Model;
 use std::rt::Files;
 
@@ -74,7 +74,7 @@ impl<'r, R: Files> Folder for DirFolder<'r, R> {
             Ok(count) => Ok(count),
             Err(ReadFault::Missing) => Err(ReadFault::Missing),
             Err(ReadFault::Failed) => {
-                self.faults = risen(self.faults);
+                self.fail();
                 Err(ReadFault::Failed)
             }
         }
@@ -97,14 +97,10 @@ impl<'r, R: Files> Folder for DirFolder<'r, R> {
 
     fn append(&mut self, _name: &str, piece: &[u8]) -> Result<(), Failed> {
         let written = match &mut self.open {
-            Some(file) => write_all(file, piece),
+            Some(file) => write_whole(file, piece),
             None => false,
         };
-        if written {
-            return Ok(());
-        }
-        self.faults = risen(self.faults);
-        Err(Failed)
+        if written { Ok(()) } else { Err(self.fail()) }
     }
 }
 
@@ -125,42 +121,5 @@ fn read_file<R: Files>(rt: &R, name: &str, at: u64, buf: &mut [u8]) -> Result<us
     if at > 0 && file.seek(SeekFrom::Start(at)).is_err() {
         return Err(ReadFault::Failed);
     }
-    read_some(&mut file, buf)
-}
-
-/// Reads some bytes, none only at the end. A read that was interrupted is tried again.
-fn read_some<F: Read>(file: &mut F, buf: &mut [u8]) -> Result<usize, ReadFault>
-    ensures { IfOk result (λ count. count ≤ length buf.new) }
-{
-    for _ in 0..u64::MAX {
-        match file.read(buf) {
-            Ok(count) => return Ok(count),
-            Err(error) => {
-                if error.kind() != ErrorKind::Interrupted {
-                    return Err(ReadFault::Failed);
-                }
-            }
-        }
-    }
-    Err(ReadFault::Failed)
-}
-
-/// Writes the whole piece, and says whether it could. A write that was interrupted is tried again.
-fn write_all<F: Write>(file: &mut F, piece: &[u8]) -> bool {
-    let mut rest = piece;
-    for _ in 0..u64::MAX {
-        if rest.is_empty() {
-            return true;
-        }
-        match file.write(rest) {
-            Ok(0) => return false,
-            Ok(count) => rest = &rest[count..],
-            Err(error) => {
-                if error.kind() != ErrorKind::Interrupted {
-                    return false;
-                }
-            }
-        }
-    }
-    false
+    read_some(&mut file, buf).ok_or(ReadFault::Failed)
 }

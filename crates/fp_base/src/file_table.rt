@@ -8,7 +8,6 @@ ghost use Rattle.fp_base.specs.Files.{bytes_of};
 ghost use Rattle.fp_base.specs.Memory.{can_hold, holding, bytes_under};
 ghost use Rattle.fp_base.specs.MemoryFiles.{HasRoom, with_bytes, no_file};
 
-
 use crate::buffer::Buffer;
 use crate::folder::NoMemory;
 use std::alloc::Global;
@@ -58,10 +57,8 @@ fn place_of(files: &[MemFile], name: &[u8]) -> Option<usize>
 fn set_at(files: &mut Vec<MemFile>, index: usize, bytes: &[u8])
     requires within { index < vec_len files.old }
     requires room { length bytes.now ≤ (slice_index_or files.old.items index no_file).bytes.room }
-    ensures items {
-        files.new.items ≡ slice_set files.old.items index
-            (with_bytes (slice_index_or files.old.items index no_file) bytes.now)
-    }
+    ensures items { files.new.items ≡ slice_set files.old.items index
+        (with_bytes (slice_index_or files.old.items index no_file) bytes.now) }
     ensures capacity { vec_capacity files.new ≡ vec_capacity files.old }
 {
     let file = &mut files[index];
@@ -71,14 +68,10 @@ fn set_at(files: &mut Vec<MemFile>, index: usize, bytes: &[u8])
 /// Puts the piece behind what the file at an index holds, if it fits.
 fn append_at(files: &mut Vec<MemFile>, index: usize, piece: &[u8]) -> bool
     requires { index < vec_len files.old }
-    ensures answer {
-        let file = slice_index_or files.old.items index no_file in
-        result ≡ nat_le (length file.bytes.bytes + length piece.now) file.bytes.room
-    }
-    ensures held {
-        let file = slice_index_or files.old.items index no_file in
-        OnTrue result (files.new.items ≡ slice_set files.old.items index (with_bytes file (file.bytes.bytes ++ piece.now)))
-    }
+    ensures answer { let file = slice_index_or files.old.items index no_file in
+        result ≡ nat_le (length file.bytes.bytes + length piece.now) file.bytes.room }
+    ensures held { let file = slice_index_or files.old.items index no_file in
+        OnTrue result (files.new.items ≡ slice_set files.old.items index (with_bytes file (file.bytes.bytes ++ piece.now))) }
     ensures refused { OnFalse result (files.new.items ≡ files.old.items) }
     ensures capacity { vec_capacity files.new ≡ vec_capacity files.old }
 {
@@ -152,12 +145,8 @@ impl FileTable {
     /// Puts the piece behind what a held name holds, if it fits.
     pub fn append(&mut self, name: &[u8], piece: &[u8]) -> bool
         requires { IsSome (bytes_of self.old.files name.now) }
-        ensures answer {
-            result ≡ nat_le (length (bytes_under self.old name.now) + length piece.now) self.old.room
-        }
-        ensures held {
-            OnTrue result (self.new ≡ holding self.old name.now (bytes_under self.old name.now ++ piece.now))
-        }
+        ensures answer { result ≡ nat_le (length (bytes_under self.old name.now) + length piece.now) self.old.room }
+        ensures held { OnTrue result (self.new ≡ holding self.old name.now (bytes_under self.old name.now ++ piece.now)) }
         ensures refused { OnFalse result (self.new ≡ self.old) }
     {
         match place_of(&self.used, name) {

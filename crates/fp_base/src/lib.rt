@@ -3,6 +3,7 @@
 
 mod buffer;
 mod call_count;
+mod device;
 mod dir_folder;
 mod file_table;
 mod folder;
@@ -19,3 +20,6 @@ pub use mem_folder::MemFolder;
 pub use mem_sink::MemSink;
 pub use sink::Sink;
 pub use stdout_sink::StdoutSink;
+
+#[cfg(test)]
+mod tests;

@@ -43,13 +43,17 @@ impl Model for MemFolder {
 impl MemFolder {
     /// A folder that holds no name and has no faults, with room for `files` names of `room` bytes
     /// each. The calls with the numbers in `fails` are to fail.
-    pub fn new(alloc: Global, fails: &[u64], files: usize, room: usize) -> Result<MemFolder, NoMemory>
-        ensures {
-            IfOk result (λ f. f ≡ record {
-                table = record { files = finite.empty; most = files; room = room };
-                made = None;
-                calls = record { so_far = 0; faults = 0; fails = fails.now } })
-        }
+    pub fn new(
+        alloc: Global,
+        fails: &[u64],
+        files: usize,
+        room: usize,
+    ) -> Result<MemFolder, NoMemory>
+        ensures { IfOk result (λ f. f ≡ record {
+          table = record { files = finite.empty; most = files; room = room };
+          made = None;
+          calls = record { so_far = 0; faults = 0; fails = fails.now };
+        }) }
     {
         let table = FileTable::new(alloc, files, room)?;
         let made = Buffer::new(alloc, NAME_ROOM)?;
@@ -66,9 +70,7 @@ impl MemFolder {
     /// exactly where the name or the bytes do not fit, and then nothing changes.
     pub fn put_file(&mut self, name: &str, bytes: &[u8]) -> bool
         ensures answer { result ≡ can_hold self.old.table name.now bytes.now }
-        ensures held {
-            OnTrue result (self.new ≡ record self.old { table = holding self.old.table name.now bytes.now })
-        }
+        ensures held { OnTrue result (self.new ≡ record self.old { table = holding self.old.table name.now bytes.now }) }
         ensures refused { OnFalse result (self.new ≡ self.old) }
     {
         self.table.set(name.as_bytes(), bytes)
@@ -87,13 +89,6 @@ impl MemFolder {
         ensures { result ≡ self.now.calls.so_far }
     {
         self.calls.so_far()
-    }
-
-    fn fail(&mut self) -> Failed
-        ensures { self.new ≡ call_failed self.old }
-    {
-        self.calls.fail();
-        Failed
     }
 }
 
@@ -138,30 +133,6 @@ impl Folder for MemFolder {
         ensures ok { OnOk result (self.new ≡ created self.old name.now) }
         ensures err { OnErr result (self.new ≡ not_created self.old) }
     {
-        self.create_file(name)
-    }
-
-    fn append(&mut self, name: &str, piece: &[u8]) -> Result<(), Failed>
-        requires { self.old.made ≡ Some name.now }
-        ensures appended { OnOk result (files_told self.new ≡ sets_file name.now (λ bytes. bytes ++ piece.now) (files_told self.old)) }
-        ensures made { self.new.made ≡ self.old.made }
-        ensures others { OthersStay name.now (files_told self.old) (files_told self.new) }
-        ensures later { self.old.calls.faults ≤ self.new.calls.faults }
-        ensures cause { OnErr result (Rose self.old.calls.faults self.new.calls.faults) }
-        ensures answer { is_ok result ≡ can_append self.old name.now piece.now }
-        ensures ok { OnOk result (self.new ≡ appended self.old name.now piece.now) }
-        ensures err { OnErr result (self.new ≡ call_failed self.old) }
-    {
-        self.append_piece(name, piece)
-    }
-}
-
-impl MemFolder {
-    fn create_file(&mut self, name: &str) -> Result<(), Failed>
-        ensures answer { is_ok result ≡ can_create self.old name.now }
-        ensures ok { OnOk result (self.new ≡ created self.old name.now) }
-        ensures err { OnErr result (self.new ≡ not_created self.old) }
-    {
         self.is_made = false;
         if self.calls.is_due() || !self.table.set(name.as_bytes(), &[]) {
             self.calls.fail();
@@ -173,8 +144,13 @@ impl MemFolder {
         Ok(())
     }
 
-    fn append_piece(&mut self, name: &str, piece: &[u8]) -> Result<(), Failed>
+    fn append(&mut self, name: &str, piece: &[u8]) -> Result<(), Failed>
         requires { self.old.made ≡ Some name.now }
+        ensures appended { OnOk result (files_told self.new ≡ sets_file name.now (λ bytes. bytes ++ piece.now) (files_told self.old)) }
+        ensures made { self.new.made ≡ self.old.made }
+        ensures others { OthersStay name.now (files_told self.old) (files_told self.new) }
+        ensures later { self.old.calls.faults ≤ self.new.calls.faults }
+        ensures cause { OnErr result (Rose self.old.calls.faults self.new.calls.faults) }
         ensures answer { is_ok result ≡ can_append self.old name.now piece.now }
         ensures ok { OnOk result (self.new ≡ appended self.old name.now piece.now) }
         ensures err { OnErr result (self.new ≡ call_failed self.old) }

@@ -35,11 +35,10 @@ impl MemSink {
     /// A sink with nothing written and no faults, with room for `room` bytes. The puts with the
     /// numbers in `fails` are to fail.
     pub fn new(alloc: Global, fails: &[u64], room: usize) -> Result<MemSink, NoMemory>
-        ensures {
-            IfOk result (λ s. s ≡ record {
-                output = record { bytes = []; room = room };
-                calls = record { so_far = 0; faults = 0; fails = fails.now } })
-        }
+        ensures { IfOk result (λ s. s ≡ record {
+          output = record { bytes = []; room = room };
+          calls = record { so_far = 0; faults = 0; fails = fails.now };
+        }) }
     {
         let output = Buffer::new(alloc, room)?;
         let calls = CallCount::new(alloc, fails)?;
@@ -59,17 +58,24 @@ impl MemSink {
     {
         self.calls.so_far()
     }
+}
 
-    fn put_piece(&mut self, piece: &[u8]) -> Result<(), Failed>
+impl Sink for MemSink {
+    ghost written = { bytes_told };
+
+    ghost faults = { λ s. s.calls.faults };
+
+    fn put(&mut self, piece: &[u8]) -> Result<(), Failed>
+        ensures put { OnOk result (bytes_told self.new ≡ followed_by piece.now (bytes_told self.old)) }
+        ensures front { OnErr result (FrontFollows piece.now (bytes_told self.old) (bytes_told self.new)) }
+        ensures later { self.old.calls.faults ≤ self.new.calls.faults }
+        ensures cause { OnErr result (Rose self.old.calls.faults self.new.calls.faults) }
         ensures answer { is_ok result ≡ can_put self.old piece.now }
-        ensures ok {
-            OnOk result (self.new ≡ record { output = written_after self.old piece.now; calls = counted self.old.calls })
-        }
-        ensures err {
-            OnErr result (self.new ≡ record {
-                output = written_after self.old (part_put self.old piece.now);
-                calls = failed self.old.calls })
-        }
+        ensures ok { OnOk result (self.new ≡ record { output = written_after self.old piece.now; calls = counted self.old.calls }) }
+        ensures err { OnErr result (self.new ≡ record {
+          output = written_after self.old (part_put self.old piece.now);
+          calls = failed self.old.calls;
+        }) }
     {
         if self.calls.is_due() {
             self.calls.fail();
@@ -84,29 +90,5 @@ impl MemSink {
         self.output.append(piece);
         self.calls.count();
         Ok(())
-    }
-}
-
-impl Sink for MemSink {
-    ghost written = { bytes_told };
-
-    ghost faults = { λ s. s.calls.faults };
-
-    fn put(&mut self, piece: &[u8]) -> Result<(), Failed>
-        ensures put { OnOk result (bytes_told self.new ≡ followed_by piece.now (bytes_told self.old)) }
-        ensures front { OnErr result (FrontFollows piece.now (bytes_told self.old) (bytes_told self.new)) }
-        ensures later { self.old.calls.faults ≤ self.new.calls.faults }
-        ensures cause { OnErr result (Rose self.old.calls.faults self.new.calls.faults) }
-        ensures answer { is_ok result ≡ can_put self.old piece.now }
-        ensures ok {
-            OnOk result (self.new ≡ record { output = written_after self.old piece.now; calls = counted self.old.calls })
-        }
-        ensures err {
-            OnErr result (self.new ≡ record {
-                output = written_after self.old (part_put self.old piece.now);
-                calls = failed self.old.calls })
-        }
-    {
-        self.put_piece(piece)
     }
 }

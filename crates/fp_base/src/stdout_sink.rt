@@ -3,9 +3,10 @@
 ghost use Rattle.std.specs.Prelude.{◌≡◌, None};
 
 use crate::call_count::risen;
+use crate::device::write_whole;
 use crate::folder::Failed;
 use crate::sink::Sink;
-use std::io::ErrorKind;
+use std::io;
 use std::marker::Model;
 
 /// Standard output. It tells nothing of what was written, and takes no memory.
@@ -38,30 +39,10 @@ impl<'r, R: Print> Sink for StdoutSink<'r, R> {
     ghost faults = { λ s. s };
 
     fn put(&mut self, piece: &[u8]) -> Result<(), Failed> {
-        if write_all(self.rt, piece) {
+        if write_whole(&mut io::writer(self.rt), piece) {
             return Ok(());
         }
         self.faults = risen(self.faults);
         Err(Failed)
     }
-}
-
-/// Writes the whole piece, and says whether it could. A write that was interrupted is tried again.
-fn write_all<R: Print>(rt: &R, piece: &[u8]) -> bool {
-    let mut rest = piece;
-    for _ in 0..u64::MAX {
-        if rest.is_empty() {
-            return true;
-        }
-        match rt.write_some(rest) {
-            Ok(0) => return false,
-            Ok(count) => rest = &rest[count..],
-            Err(error) => {
-                if error.kind() != ErrorKind::Interrupted {
-                    return false;
-                }
-            }
-        }
-    }
-    false
 }

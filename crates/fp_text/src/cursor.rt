@@ -1,6 +1,6 @@
 //! The tokens of a text, one after the other, and what a grammar asks of the next one.
 
-ghost use Rattle.std.specs.Prelude.{◌≡◌, ◌≤◌, ◌<◌, ◌≢◌, ℕ, length, slice_index, slice_range, IfSome, IsErrOf};
+ghost use Rattle.std.specs.Prelude.{◌≡◌, ◌≤◌, ◌<◌, ◌≢◌, ℕ, ◌^◌, length, slice_index, slice_range, IfSome, IfOk, IsErrOf};
 ghost use Rattle.std.specs.List.{list_all};
 ghost use Rattle.fp_text.specs.Words.{is_blank, IsToken, AreTokens};
 ghost use Rattle.fp_text.specs.Numbers.{is_name, is_name_byte};
@@ -178,6 +178,7 @@ impl<'a> Tokens<'a> {
     #[tactic(auto, unfolding(crate::specs::Reading::number_next))]
     pub fn number(&mut self, least: u64, most: u64, above: Kind) -> Result<u64, TextFault>
         ensures gives { Gives (λ n. n) result self.new (number_next least most above self.old) }
+        ensures range { IfOk result (λ n. (least ≤ n) × (n ≤ most) × (n ≤ 2 ^ 30)) }
         ensures memory { IsErrOf result TextFault.Memory → ⊥ }
     {
         let word = self.word()?;

@@ -27,5 +27,5 @@ pub returns-clause-held : goal.returns-clause-held
 returns-clause-held c =
     rw (← c.self.view_is)
     (ap (λ (files : Files). record { files = files; most = c.self.inside.most; room = c.self.inside.room })
-      (ap files_of (pushed c)
-      ∙ files_push c.self.inside.used.items (filled c.in-Some.file c.args.name.now c.args.bytes.now) c.args.name.now c.args.bytes.now (new_name c) refl refl))
+    (ap files_of (pushed c)
+    ∙ files_push c.self.inside.used.items (filled c.in-Some.file c.args.name.now c.args.bytes.now) c.args.name.now c.args.bytes.now (new_name c) refl refl))

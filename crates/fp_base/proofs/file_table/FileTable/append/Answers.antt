@@ -1,10 +1,7 @@
-use Rattle.std.proofs.Common.{◌≡◌, ◌≤◌, ◌++◌, List, ℕ, Some, None, sym, ap, ◌∙◌, subst, arith, get_or, length, true, false}
-use Rattle.std.specs.Prelude.{position, is_some, IsSome, nat_le, unwrap_or, ◌+◌}
+use Rattle.std.proofs.Common.{◌≡◌, Some, None, sym, ap, ◌∙◌, length}
+use Rattle.std.specs.Prelude.{position, is_some}
 use Rattle.std.specs.Str.{bytes_eq}
 use Rattle.fp_base.specs.declared.file_table.MemFile.{MemFile}
-use Rattle.fp_base.specs.Files.{Files, bytes_of}
-use Rattle.fp_base.specs.Memory.{Table, bytes_under}
-use Rattle.fp_base.specs.MemoryFiles.{files_of, no_file, AreKept}
 use Rattle.fp_base.proofs.Places.{none_found}
 use Rattle.fp_base.proofs.Kept.{kept_append, table_append, fits_append}
 use Rattle.fp_base.proofs.file_table.FileTable.append.Goals as goal
@@ -24,14 +21,14 @@ invariant_of-self c =
     sym (rw c.deref.ensures.value at c.in-Some.ensures) in
     rw c.append_at.ensures.capacity
     (kept_append c.append_at.result c.self.inside.used.items c.append_at.new.files.items c.self.inside.spare.items _ _ _ c.args.name.now c.args.piece.now c.in-Some.index
-      place c.append_at.ensures.held c.append_at.ensures.refused c.self.invariant)
+    place c.append_at.ensures.held c.append_at.ensures.refused c.self.invariant)
 
 pub returns-clause-answer : goal.returns-clause-answer
 returns-clause-answer c =
     let place : position (λ (f : MemFile). bytes_eq c.args.name.now f.name.bytes) c.self.inside.used.items ≡ Some c.in-Some.index =
     sym (rw c.deref.ensures.value at c.in-Some.ensures) in
     c.append_at.ensures.answer ∙ rw (← c.self.view_is)
-      (fits_append c.self.inside.used.items c.self.inside.spare.items _ _ _ c.args.name.now (length c.args.piece.now) c.in-Some.index place c.self.invariant)
+    (fits_append c.self.inside.used.items c.self.inside.spare.items _ _ _ c.args.name.now (length c.args.piece.now) c.in-Some.index place c.self.invariant)
 
 pub returns-clause-held : goal.returns-clause-held
 returns-clause-held c =

@@ -1,10 +1,10 @@
-use Rattle.std.proofs.Common.{◌≡◌, ◌≤◌, Some, None, sym, ap, ◌∙◌, subst, arith, get_or, length}
-use Rattle.std.specs.Prelude.{position, is_some, IsSome}
+use Rattle.std.proofs.Common.{◌≡◌, Some, None, sym, ap, ◌∙◌, arith}
+use Rattle.std.specs.Prelude.{position, is_some}
 use Rattle.std.specs.Str.{bytes_eq}
 use Rattle.fp_base.specs.declared.file_table.MemFile.{MemFile}
-use Rattle.fp_base.specs.Files.{Files, bytes_of}
+use Rattle.fp_base.specs.Files.{Files}
 use Rattle.fp_base.specs.Memory.{Table}
-use Rattle.fp_base.specs.MemoryFiles.{files_of, no_file, AreKept}
+use Rattle.fp_base.specs.MemoryFiles.{files_of, no_file}
 use Rattle.fp_base.proofs.Places.{files_set, bytes_found, none_found}
 use Rattle.fp_base.proofs.Kept.{kept_set, can_hold_found, can_hold_new}
 use Rattle.fp_base.proofs.file_table.FileTable.set.Goals as goal
@@ -28,7 +28,7 @@ returns-in-Some-clause-answer c =
     sym (rw c.deref.ensures.value at c.in-Some.ensures) in
     rw (← c.self.view_is)
     (can_hold_found _ c.args.name.now c.args.bytes.now (omega arith) (omega arith)
-      (ap is_some (bytes_found c.self.inside.used.items c.args.name.now no_file c.in-Some.index place)))
+    (ap is_some (bytes_found c.self.inside.used.items c.args.name.now no_file c.in-Some.index place)))
 
 pub returns-in-Some-clause-held : goal.returns-in-Some-clause-held
 returns-in-Some-clause-held c =
@@ -43,4 +43,4 @@ returns-in-None-clause-answer c =
     let place : position (λ (f : MemFile). bytes_eq c.args.name.now f.name.bytes) c.self.inside.used.items ≡ None =
     sym (rw c.deref.ensures.value at c.in-None.ensures) in
     c.add.ensures.answer ∙ rw (← c.self.view_is)
-      (can_hold_new _ c.args.name.now c.args.bytes.now (omega arith) (omega arith) (none_found c.self.inside.used.items c.args.name.now place))
+    (can_hold_new _ c.args.name.now c.args.bytes.now (omega arith) (omega arith) (none_found c.self.inside.used.items c.args.name.now place))

@@ -1,6 +1,6 @@
 use Rattle.std.proofs.Common.{◌≡◌, Bool, true, false}
 use Rattle.std.specs.Bool.{OnTrue, OnFalse}
-use Rattle.fp_base.specs.Memory.{Table, Filled, Calls, holding}
+use Rattle.fp_base.specs.Memory.{Table, holding}
 use Rattle.fp_base.specs.MemoryFolder.{IsSound}
 use Rattle.fp_base.specs.declared.mem_folder.MemFolder.TheInside.{Inside}
 use Rattle.fp_base.specs.FilesLaws.{held_later}

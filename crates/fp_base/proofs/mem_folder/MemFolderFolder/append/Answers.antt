@@ -1,11 +1,12 @@
-use Rattle.std.proofs.Common.{ap}
-use Rattle.std.proofs.lemmas.Result.{on_ok_weaker, on_err_weaker}
-use Rattle.fp_base.specs.Memory.{FolderState}
-use Rattle.fp_base.proofs.Others.{others_after}
+use Rattle.fp_base.specs.FilesLaws.{bytes_others, held_later}
 use Rattle.fp_base.proofs.mem_folder.MemFolderFolder.append.Goals as goal
+
+pub invariant_of-self-2 : goal.invariant_of-self-2
+invariant_of-self-2 c =
+    rw c.if-not-append.ensures.held
+    (record { name_room = c.self.invariant.name_room; held = λ made. held_later c.self.inside.table.files _ _ c.self.inside.made.bytes (c.self.invariant.held made) })
 
 pub returns-clause-others : goal.returns-clause-others
 returns-clause-others c =
-    others_after c.append_piece.result c.args.name.now _ c.args.self.now.table.files c.append_piece.new.self.table.files
-    (on_ok_weaker c.append_piece.result (ap (λ (s : FolderState). s.table.files)) c.append_piece.ensures.ok)
-    (on_err_weaker c.append_piece.result (ap (λ (s : FolderState). s.table.files)) c.append_piece.ensures.err)
+    rw (← c.self.view_is, c.if-not-append.ensures.held, c.as_bytes.ensures.value)
+    (λ other apart. bytes_others c.self.inside.table.files c.args.name.now _ other apart)

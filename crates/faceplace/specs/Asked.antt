@@ -1,0 +1,7 @@
+-- A request of the program as what was asked.
+use Rattle.faceplace.specs.declared.request.Request.{Request}
+use Rattle.faceplace.specs.declared.request.Request.TheVariants as requests
+use Rattle.faceplace.specs.Request.{Asked, Seed}
+
+abbrev pub asked_of : Request → Asked
+asked_of (requests.Seed input output) = Seed input.now output.now

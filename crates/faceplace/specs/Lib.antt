@@ -1,0 +1,7 @@
+pub mod Request
+pub mod Asked
+pub mod Report
+pub mod Causes
+pub mod Status
+pub mod Input
+pub mod Run

@@ -1,0 +1,13 @@
+//! The program `faceplace`.
+#![tactic(auto)]
+
+mod input;
+mod out;
+mod report;
+mod request;
+mod run;
+mod status;
+
+pub use run::run;
+
+fn main() {}

@@ -1,0 +1,177 @@
+-- The grammar of the input file, as a relation between a problem and the tokens that spell it: each statement
+-- takes the first words, and the rest follow.
+use Rattle.std.specs.Prelude.{◌≡◌, ℕ, ◌+◌, ◌^◌, Bool, true, false, ◌==◌, if◌then◌else◌, List, [], ◌∷◌, ◌++◌, length, Some, slice_get, codes}
+use Rattle.fp_base.specs.declared.ids.Die.{Die}
+use Rattle.fp_base.specs.declared.ids.Die.TheVariants.{Top, Bottom}
+use Rattle.fp_text.specs.Words.{Word, words_of}
+use Rattle.fp_text.specs.Numbers.{is_name, Spells}
+use Rattle.fp_text.specs.ReadingLaws.{Each}
+use Rattle.fp_tech.specs.declared.dies.Frame.{Frame}
+use Rattle.fp_tech.specs.declared.dies.DieSpec.{DieSpec}
+use Rattle.fp_tech.specs.Book.{Pin, is_among}
+use Rattle.fp_tech.specs.Plan.{rows_lie}
+use Rattle.fp_contest_in.specs.declared.section.Section.{Section}
+use Rattle.fp_contest_in.specs.declared.section.Section.TheVariants.{DieSize, MaxUtil, Rows, Tech, TerminalSize, TerminalSpacing}
+use Rattle.fp_contest_in.specs.Text.{LibText, TechText, Setup, ProblemText, pin_name_list, lib_name_list, tech_name_list}
+
+-- the greatest number that is read
+abbrev pub most_number : ℕ
+most_number = 2 ^ 30
+
+-- a number with its range
+pub record Ranged : Type 0 where
+  pub least : ℕ
+  pub most : ℕ
+  pub value : ℕ
+
+abbrev pub any_number : ℕ → Ranged
+any_number n = record { least = 0; most = most_number; value = n }
+
+abbrev pub ranged : ℕ → ℕ → ℕ → Ranged
+ranged least most n = record { least = least; most = most; value = n }
+
+-- the first word is this keyword
+abbrev pub Keyword : List ℕ → List Word → List Word → Type 0
+Keyword keyword words rest = (word : Word) × (words ≡ word ∷ rest) × (word.text ≡ keyword)
+
+-- the first word is this name
+abbrev pub Named : List ℕ → List Word → List Word → Type 0
+Named name words rest = (word : Word) × (words ≡ word ∷ rest) × (word.text ≡ name) × (is_name name ≡ true)
+
+-- the first words are these numbers, each in its range
+abbrev pub Numbers : List Ranged → List Word → List Word → Type 0
+Numbers [] words rest = words ≡ rest
+Numbers (n ∷ ns) words rest = (word : Word) × (mid : List Word) × (words ≡ word ∷ mid) × Spells n.least n.most word.text n.value × Numbers ns mid rest
+
+-- a name is new: it is not among those before it
+abbrev pub IsNew : List ℕ → List (List ℕ) → Type 0
+IsNew name before = is_among name before ≡ false
+
+-- `Pin name x y`
+pub record IsPin (pin : Pin) (words rest : List Word) : Type 0 where
+  pub after_keyword : List Word
+  pub after_name : List Word
+  pub keyword : Keyword (codes "Pin") words after_keyword
+  pub name : Named pin.name after_keyword after_name
+  pub offset : Numbers (any_number pin.x ∷ any_number pin.y ∷ []) after_name rest
+
+-- a pin whose name is none of those before it
+abbrev pub IsNewPin : List Pin → Pin → List Word → List Word → Type 0
+IsNewPin before pin words rest = IsPin pin words rest × IsNew pin.name (pin_name_list before)
+
+-- `LibCell name width height p`, then p pins with distinct names
+pub record IsLib (lib : LibText) (words rest : List Word) : Type 0 where
+  pub after_keyword : List Word
+  pub after_name : List Word
+  pub after_count : List Word
+  pub keyword : Keyword (codes "LibCell") words after_keyword
+  pub name : Named lib.name after_keyword after_name
+  pub numbers : Numbers (ranged 1 most_number lib.width ∷ ranged 1 most_number lib.height ∷ ranged 0 1024 (length lib.pins) ∷ []) after_name after_count
+  pub items : Each IsNewPin [] lib.pins after_count rest
+
+abbrev pub IsNewLib : List LibText → LibText → List Word → List Word → Type 0
+IsNewLib before lib words rest = IsLib lib words rest × IsNew lib.name (lib_name_list before)
+
+-- `Tech name m`, then m library cells with distinct names
+pub record IsTech (tech : TechText) (words rest : List Word) : Type 0 where
+  pub after_keyword : List Word
+  pub after_name : List Word
+  pub after_count : List Word
+  pub keyword : Keyword (codes "Tech") words after_keyword
+  pub name : Named tech.name after_keyword after_name
+  pub count : Numbers (ranged 0 4096 (length tech.libs) ∷ []) after_name after_count
+  pub items : Each IsNewLib [] tech.libs after_count rest
+
+abbrev pub IsNewTech : List TechText → TechText → List Word → List Word → Type 0
+IsNewTech before tech words rest = IsTech tech words rest × IsNew tech.name (tech_name_list before)
+
+-- `NumTechnologies n`, then n technologies with distinct names
+pub record AreTechs (techs : List TechText) (words rest : List Word) : Type 0 where
+  pub after_keyword : List Word
+  pub after_count : List Word
+  pub keyword : Keyword (codes "NumTechnologies") words after_keyword
+  pub count : Numbers (ranged 1 16 (length techs) ∷ []) after_keyword after_count
+  pub items : Each IsNewTech [] techs after_count rest
+
+abbrev pub die_of : Setup → Die → DieSpec
+die_of setup Top = setup.top
+die_of setup Bottom = setup.bottom
+
+-- a section's keyword
+abbrev pub keyword_of : Section → List ℕ
+keyword_of DieSize = codes "DieSize"
+keyword_of (MaxUtil Top) = codes "TopDieMaxUtil"
+keyword_of (MaxUtil Bottom) = codes "BottomDieMaxUtil"
+keyword_of (Rows Top) = codes "TopDieRows"
+keyword_of (Rows Bottom) = codes "BottomDieRows"
+keyword_of (Tech Top) = codes "TopDieTech"
+keyword_of (Tech Bottom) = codes "BottomDieTech"
+keyword_of TerminalSize = codes "TerminalSize"
+keyword_of TerminalSpacing = codes "TerminalSpacing"
+
+-- a die's technology by its name: that of the technology of this number
+abbrev pub NamesTech : List TechText → ℕ → List Word → List Word → Type 0
+NamesTech techs number words rest = (tech : TechText) × (slice_get techs number ≡ Some tech) × Named tech.name words rest
+
+-- a section's fields say what the setup has there
+abbrev pub HasFields : List TechText → Setup → Section → List Word → List Word → Type 0
+HasFields techs setup DieSize = Numbers (any_number setup.frame.llx ∷ any_number setup.frame.lly
+    ∷ ranged (setup.frame.llx + 1) most_number setup.frame.urx ∷ ranged (setup.frame.lly + 1) most_number setup.frame.ury ∷ [])
+HasFields techs setup (MaxUtil die) = Numbers (ranged 0 100 (die_of setup die).percent ∷ [])
+HasFields techs setup (Rows die) = Numbers (any_number (die_of setup die).start_x ∷ any_number (die_of setup die).start_y
+    ∷ ranged 1 most_number (die_of setup die).length ∷ ranged 1 most_number (die_of setup die).height ∷ ranged 1 (2 ^ 16) (die_of setup die).repeat ∷ [])
+HasFields techs setup (Tech die) = NamesTech techs (die_of setup die).tech.0
+HasFields techs setup TerminalSize = Numbers (ranged 1 most_number setup.terminal.size_x ∷ ranged 1 most_number setup.terminal.size_y ∷ [])
+HasFields techs setup TerminalSpacing = Numbers (any_number setup.terminal.spacing ∷ [])
+
+-- a section: its keyword and its fields
+abbrev pub IsSection : List TechText → Setup → Section → List Word → List Word → Type 0
+IsSection techs setup section words rest = (mid : List Word) × Keyword (keyword_of section) words mid × HasFields techs setup section mid rest
+
+-- the place of a section in the usual order
+abbrev pub section_number : Section → ℕ
+section_number DieSize = 0
+section_number (MaxUtil Top) = 1
+section_number (MaxUtil Bottom) = 2
+section_number (Rows Top) = 3
+section_number (Rows Bottom) = 4
+section_number (Tech Top) = 5
+section_number (Tech Bottom) = 6
+section_number TerminalSize = 7
+section_number TerminalSpacing = 8
+
+abbrev pub is_in : Section → List Section → Bool
+is_in section [] = false
+is_in section (first ∷ others) = if section_number first == section_number section then true else is_in section others
+
+-- a section that is none of those before it
+abbrev pub IsNewSection : List TechText → Setup → List Section → Section → List Word → List Word → Type 0
+IsNewSection techs setup before section words rest = IsSection techs setup section words rest × (is_in section before ≡ false)
+
+-- the nine sections, each once, in some order; the rows of both dies lie in the frame
+pub record AreSections (techs : List TechText) (setup : Setup) (words rest : List Word) : Type 0 where
+  pub order : List Section
+  pub nine : length order ≡ 9
+  pub each : Each (IsNewSection techs setup) [] order words rest
+  pub top_lies : rows_lie setup.frame setup.top ≡ true
+  pub bottom_lies : rows_lie setup.frame setup.bottom ≡ true
+
+-- `NumInstances 0` and `NumNets 0`
+pub record IsNothing (keyword : List ℕ) (words rest : List Word) : Type 0 where
+  pub after_keyword : List Word
+  pub named : Keyword keyword words after_keyword
+  pub count : Numbers (ranged 0 0 0 ∷ []) after_keyword rest
+
+-- the words of a whole file
+pub record IsProblem (text : ProblemText) (words : List Word) : Type 0 where
+  pub after_techs : List Word
+  pub after_sections : List Word
+  pub after_instances : List Word
+  pub techs : AreTechs text.techs words after_techs
+  pub sections : AreSections text.techs text.setup after_techs after_sections
+  pub instances : IsNothing (codes "NumInstances") after_sections after_instances
+  pub nets : IsNothing (codes "NumNets") after_instances []
+
+-- the bytes are an input file that says this problem
+abbrev pub Reads : List ℕ → ProblemText → Type 0
+Reads bytes text = IsProblem text (words_of bytes)

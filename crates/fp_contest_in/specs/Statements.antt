@@ -1,0 +1,251 @@
+-- The input file read from left to right, statement by statement, up to its first fault.
+use Rattle.std.specs.Prelude.{◌≡◌, ℕ, zero, suc, ◌+◌, ◌^◌, Bool, true, false, if◌then◌else◌, List, [], ◌∷◌, Option, Some, None, is_some, unwrap_or, Result, Ok, Err, codes}
+use Rattle.std.specs.Str.{bytes_eq}
+use Rattle.fp_base.specs.declared.ids.Die.{Die}
+use Rattle.fp_base.specs.declared.ids.Die.TheVariants.{Top, Bottom}
+use Rattle.fp_base.specs.declared.ids.TechId.{TechId}
+use Rattle.fp_text.specs.Words.{Word}
+use Rattle.fp_text.specs.Reading.{Left, Read, Fault, fault, whole, ◌>>=◌, word_next, keyword_next, name_next, number_next, end_next, many_next, GivesFault}
+use Rattle.fp_text.specs.declared.fault.Kind.{Kind}
+use Rattle.fp_text.specs.declared.fault.Kind.TheVariants as kinds
+use Rattle.fp_text.specs.declared.fault.TextFault.{TextFault}
+use Rattle.fp_tech.specs.declared.dies.Frame.{Frame}
+use Rattle.fp_tech.specs.declared.dies.DieSpec.{DieSpec}
+use Rattle.fp_tech.specs.declared.dies.TermSpec.{TermSpec}
+use Rattle.fp_tech.specs.Book.{Pin, is_among, place_of}
+use Rattle.fp_tech.specs.Plan.{Plan, rows_lie}
+use Rattle.fp_contest_in.specs.declared.section.Section.{Section}
+use Rattle.fp_contest_in.specs.declared.section.Section.TheVariants.{DieSize, MaxUtil, Rows, Tech, TerminalSize, TerminalSpacing}
+use Rattle.fp_contest_in.specs.declared.section.RowsFound.{RowsFound}
+use Rattle.fp_contest_in.specs.declared.section.DieFound.{DieFound}
+use Rattle.fp_contest_in.specs.declared.section.Found.{Found}
+use Rattle.fp_contest_in.specs.Text.{LibText, TechText, Setup, ProblemText, pin_name_list, lib_name_list, tech_name_list, plan_of}
+use Rattle.fp_contest_in.specs.Grammar.{keyword_of, most_number}
+
+-- a name that is not among those before it
+unfoldable pub new_name_next : List (List ℕ) → Left → Read (List ℕ)
+new_name_next before l = do
+  name ← name_next l
+  if is_among name.0.text before then fault name.0.at kinds.Twice else Ok (name.0.text, name.1)
+
+-- `Pin name x y`, after pins of these names
+unfoldable pub pin_next : List (List ℕ) → Left → Read Pin
+pin_next before l = do
+  keyword ← keyword_next (codes "Pin") l
+  name ← new_name_next before keyword.1
+  x ← number_next 0 most_number kinds.Range name.1
+  y ← number_next 0 most_number kinds.Range x.1
+  Ok (record { name = name.0; x = x.0; y = y.0 }, y.1)
+
+-- two sizes from 1
+unfoldable pub sizes_next : Left → Read (ℕ × ℕ)
+sizes_next l = do
+  width ← number_next 1 most_number kinds.Range l
+  height ← number_next 1 most_number kinds.Range width.1
+  Ok ((width.0, height.0), height.1)
+
+-- `LibCell name width height p` and p pins, after library cells of these names
+unfoldable pub lib_next : List (List ℕ) → Left → Read LibText
+lib_next before l = do
+  keyword ← keyword_next (codes "LibCell") l
+  name ← new_name_next before keyword.1
+  sizes ← sizes_next name.1
+  count ← number_next 0 1024 kinds.Limit sizes.1
+  pins ← many_next (λ pins. pin_next (pin_name_list pins)) count.0 [] count.1
+  Ok (record { name = name.0; width = sizes.0.0; height = sizes.0.1; pins = pins.0 }, pins.1)
+
+-- `Tech name m` and m library cells, after technologies of these names
+unfoldable pub tech_next : List (List ℕ) → Left → Read TechText
+tech_next before l = do
+  keyword ← keyword_next (codes "Tech") l
+  name ← new_name_next before keyword.1
+  count ← number_next 0 4096 kinds.Limit name.1
+  libs ← many_next (λ libs. lib_next (lib_name_list libs)) count.0 [] count.1
+  Ok (record { name = name.0; libs = libs.0 }, libs.1)
+
+-- `NumTechnologies n` and n technologies
+unfoldable pub techs_next : Left → Read (List TechText)
+techs_next l = do
+  keyword ← keyword_next (codes "NumTechnologies") l
+  count ← number_next 1 16 kinds.Limit keyword.1
+  many_next (λ techs. tech_next (tech_name_list techs)) count.0 [] count.1
+
+-- the section that a keyword begins
+unfoldable pub section_of : List ℕ → Option Section
+section_of word =
+    if bytes_eq word (keyword_of DieSize) then Some DieSize else (
+    if bytes_eq word (keyword_of (MaxUtil Top)) then Some (MaxUtil Top) else (
+    if bytes_eq word (keyword_of (MaxUtil Bottom)) then Some (MaxUtil Bottom) else (
+    if bytes_eq word (keyword_of (Rows Top)) then Some (Rows Top) else (
+    if bytes_eq word (keyword_of (Rows Bottom)) then Some (Rows Bottom) else (
+    if bytes_eq word (keyword_of (Tech Top)) then Some (Tech Top) else (
+    if bytes_eq word (keyword_of (Tech Bottom)) then Some (Tech Bottom) else (
+    if bytes_eq word (keyword_of TerminalSize) then Some TerminalSize else (
+    if bytes_eq word (keyword_of TerminalSpacing) then Some TerminalSpacing else None))))))))
+
+-- the sections that were read, and what they said
+
+abbrev pub no_die : DieFound
+no_die = record { percent = None; rows = None; tech = None }
+
+abbrev pub none_found : Found
+none_found = record { frame = None; top = no_die; bottom = no_die; size = None; spacing = None }
+
+abbrev pub die_found : Found → Die → DieFound
+die_found found Top = found.top
+die_found found Bottom = found.bottom
+
+abbrev pub set_die : Found → Die → DieFound → Found
+set_die found Top die = record found { top = die }
+set_die found Bottom die = record found { bottom = die }
+
+-- the section was read
+abbrev pub has_section : Found → Section → Bool
+has_section found DieSize = is_some found.frame
+has_section found (MaxUtil die) = is_some (die_found found die).percent
+has_section found (Rows die) = is_some (die_found found die).rows
+has_section found (Tech die) = is_some (die_found found die).tech
+has_section found TerminalSize = is_some found.size
+has_section found TerminalSpacing = is_some found.spacing
+
+-- which of the nine were read, in the usual order, and how many
+abbrev pub bits : Found → List Bool
+bits found = is_some found.frame ∷ is_some found.top.percent ∷ is_some found.bottom.percent ∷ is_some found.top.rows ∷ is_some found.bottom.rows
+    ∷ is_some found.top.tech ∷ is_some found.bottom.tech ∷ is_some found.size ∷ is_some found.spacing ∷ []
+
+unfoldable pub count_true : List Bool → ℕ
+count_true [] = 0
+count_true (bit ∷ others) = (if bit then 1 else 0) + count_true others
+
+abbrev pub found_count : Found → ℕ
+found_count found = count_true (bits found)
+
+unfoldable pub frame_next : Left → Read Frame
+frame_next l = do
+  llx ← number_next 0 most_number kinds.Range l
+  lly ← number_next 0 most_number kinds.Range llx.1
+  urx ← number_next (llx.0 + 1) most_number kinds.Range lly.1
+  ury ← number_next (lly.0 + 1) most_number kinds.Range urx.1
+  Ok (record { llx = llx.0; lly = lly.0; urx = urx.0; ury = ury.0 }, ury.1)
+
+-- a die's rows, whose keyword stands at this place
+unfoldable pub rows_next : ℕ → Left → Read RowsFound
+rows_next at l = do
+  x ← number_next 0 most_number kinds.Range l
+  y ← number_next 0 most_number kinds.Range x.1
+  sizes ← sizes_next y.1
+  repeat ← number_next 1 (2 ^ 16) kinds.Limit sizes.1
+  Ok (record { at = at; start_x = x.0; start_y = y.0; length = sizes.0.0; height = sizes.0.1; repeat = repeat.0 }, repeat.1)
+
+-- the number of the technology of a name that is known
+abbrev pub known_tech : Option ℕ → ℕ → Left → Read TechId
+known_tech None at l = fault at kinds.Unknown
+known_tech (Some number) at l = Ok (record { 0 = number }, l)
+
+unfoldable pub tech_name_next : List (List ℕ) → Left → Read TechId
+tech_name_next names l = do
+  name ← name_next l
+  known_tech (place_of name.0.text names) name.0.at name.1
+
+-- a section's fields, put beside those of the sections before it
+unfoldable pub fields_next : List (List ℕ) → Section → ℕ → Found → Left → Read Found
+fields_next names DieSize at found l = do
+  frame ← frame_next l
+  Ok (record found { frame = Some frame.0 }, frame.1)
+fields_next names (MaxUtil die) at found l = do
+  percent ← number_next 0 100 kinds.Range l
+  Ok (set_die found die (record (die_found found die) { percent = Some percent.0 }), percent.1)
+fields_next names (Rows die) at found l = do
+  rows ← rows_next at l
+  Ok (set_die found die (record (die_found found die) { rows = Some rows.0 }), rows.1)
+fields_next names (Tech die) at found l = do
+  tech ← tech_name_next names l
+  Ok (set_die found die (record (die_found found die) { tech = Some tech.0 }), tech.1)
+fields_next names TerminalSize at found l = do
+  sizes ← sizes_next l
+  Ok (record found { size = Some sizes.0 }, sizes.1)
+fields_next names TerminalSpacing at found l = do
+  spacing ← number_next 0 most_number kinds.Range l
+  Ok (record found { spacing = Some spacing.0 }, spacing.1)
+
+-- a keyword that begins a section which was not read before
+unfoldable pub new_section : Option Section → ℕ → Found → Result Section Fault
+new_section None at found = fault at kinds.Word
+new_section (Some section) at found = if has_section found section then fault at kinds.Twice else Ok section
+
+unfoldable pub section_next : List (List ℕ) → Found → Left → Read Found
+section_next names found l = do
+  word ← word_next l
+  section ← new_section (section_of word.0.text) word.0.at found
+  fields_next names section word.0.at found word.1
+
+-- so many sections
+unfoldable pub sections_next : List (List ℕ) → ℕ → Found → Left → Read Found
+sections_next names zero found l = Ok (found, l)
+sections_next names (suc n) found l = do
+  more ← section_next names found l
+  sections_next names n more.0 more.1
+
+-- what the sections say together; once all nine are read, no default stands in it
+abbrev pub no_rows : RowsFound
+no_rows = record { at = 0; start_x = 0; start_y = 0; length = 0; height = 0; repeat = 0 }
+
+abbrev pub rows_of : DieFound → RowsFound
+rows_of die = unwrap_or die.rows no_rows
+
+abbrev pub die_spec : DieFound → DieSpec
+die_spec die = record {
+  percent = unwrap_or die.percent 0;
+  tech = unwrap_or die.tech (record { 0 = 0 });
+  start_x = (rows_of die).start_x;
+  start_y = (rows_of die).start_y;
+  length = (rows_of die).length;
+  height = (rows_of die).height;
+  repeat = (rows_of die).repeat
+}
+
+abbrev pub no_frame : Frame
+no_frame = record { llx = 0; lly = 0; urx = 0; ury = 0 }
+
+abbrev pub setup_of : Found → Setup
+setup_of found = record {
+  frame = unwrap_or found.frame no_frame;
+  top = die_spec found.top;
+  bottom = die_spec found.bottom;
+  terminal = record { size_x = (unwrap_or found.size (0, 0)).0; size_y = (unwrap_or found.size (0, 0)).1; spacing = unwrap_or found.spacing 0 }
+}
+
+-- the setup where both dies' rows lie in the frame; else the first that does not, at its rows' keyword
+unfoldable pub setup_checked : Found → Left → Read Setup
+setup_checked found l =
+    if rows_lie (setup_of found).frame (setup_of found).top
+      then (if rows_lie (setup_of found).frame (setup_of found).bottom then Ok (setup_of found, l) else fault (rows_of found.bottom).at kinds.Rows)
+      else fault (rows_of found.top).at kinds.Rows
+
+-- a keyword with a count that has to be 0
+unfoldable pub nothing_next : List ℕ → Left → Read ℕ
+nothing_next keyword l = do
+  word ← keyword_next keyword l
+  number_next 0 0 kinds.Limit word.1
+
+-- the technologies and the sections
+unfoldable pub front_next : Left → Read ProblemText
+front_next l = do
+  techs ← techs_next l
+  found ← sections_next (tech_name_list techs.0) 9 none_found techs.1
+  setup ← setup_checked found.0 found.1
+  Ok (record { techs = techs.0; setup = setup.0 }, setup.1)
+
+-- the whole file: its problem, or its first fault
+unfoldable pub problem_of : List ℕ → Result ProblemText Fault
+problem_of bytes = do
+  front ← front_next (whole bytes)
+  instances ← nothing_next (codes "NumInstances") front.1
+  nets ← nothing_next (codes "NumNets") instances.1
+  end ← end_next nets.1
+  Ok front.0
+
+-- what a reader of the file returned: the dies of the problem that is read, or the first fault, or want of memory
+abbrev pub GivesPlan : Result Plan TextFault → Result ProblemText Fault → Type 0
+GivesPlan (Ok plan) read = (text : ProblemText) × (read ≡ Ok text) × (plan ≡ plan_of text)
+GivesPlan (Err e) read = GivesFault e read

@@ -1,0 +1,5 @@
+pub use Rattle.fp_tech.specs.Book
+pub use Rattle.fp_tech.specs.Plan
+pub use Rattle.fp_tech.specs.Slots
+pub mod Netlist
+pub mod Points

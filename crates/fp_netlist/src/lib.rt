@@ -1,0 +1,6 @@
+//! The netlist: cells, nets and connections over two dies, cross-linked by numbers.
+#![tactic(auto)]
+
+mod problem;
+
+pub use problem::Conn;
