@@ -13,8 +13,9 @@ word_at bytes token = record { at = token.start; text = slice_range bytes token.
 abbrev pub word_of : WordRead → Word
 word_of word = record { at = word.at; text = word.text.now }
 
--- the next token: none exactly where no words are left, else the place of the first of them, which is not empty
--- and lies in the source
+-- the next token: none exactly where no words are left, else the place of the first of them, which
+-- is not empty and lies in the source
 abbrev pub Advances : Left → Option Token → Left → Type 0
 Advances old None new = (old.words ≡ []) × (new.words ≡ [])
-Advances old (Some token) new = (old.words ≡ word_at old.bytes token ∷ new.words) × (token.start < token.end) × (token.end ≤ length old.bytes)
+Advances old (Some token) new = (old.words ≡ word_at old.bytes token ∷ new.words)
+    × (token.start < token.end) × (token.end ≤ length old.bytes)

@@ -41,7 +41,8 @@ below_zero (Err e) = Err e
 abbrev pub signed_of : ℕ → List ℕ → Result ℤ NumberFault
 signed_of most [] = Err NotDigits
 signed_of most (byte ∷ digits) =
-    if byte == 45 then below_zero (number_of most digits) else above_zero (number_of most (byte ∷ digits))
+    if byte == 45 then below_zero (number_of most digits) else above_zero
+        (number_of most (byte ∷ digits))
 
 -- a byte of a name: printed, and no blank
 abbrev pub is_name_byte : ℕ → Bool
@@ -49,7 +50,8 @@ is_name_byte byte = nat_le 33 byte && nat_le byte 126
 
 -- a name is 1 to 255 such bytes
 abbrev pub is_name : List ℕ → Bool
-is_name token = nat_lt 0 (length token) && (nat_le (length token) 255 && list_all is_name_byte token)
+is_name token =
+    nat_lt 0 (length token) && (nat_le (length token) 255 && list_all is_name_byte token)
 
 -- the token stands for this number, which lies in the range; every number is at most 2^30
 pub record Spells (low high : ℕ) (token : List ℕ) (n : ℕ) : Type 0 where

@@ -1,4 +1,5 @@
--- Reading a grammar from left to right, token by token: a value and the tokens that are left, or the first fault.
+-- Reading a grammar from left to right, token by token: a value and the tokens that are left, or
+-- the first fault.
 use Rattle.std.specs.Prelude.{◌≡◌, ℕ, zero, suc, ◌^◌, nat_lt, nat_le, ◌&&◌, if◌then◌else◌, List, [], ◌∷◌, ◌++◌, length, Result, Ok, Err}
 use Rattle.std.specs.Str.{bytes_eq}
 use Rattle.fp_text.specs.Words.{Word, words_of}
@@ -53,7 +54,8 @@ name_next l = do
   word ← word_next l
   if is_name word.0.text then Ok word else fault word.0.at Name
 
--- a number: `Number` where the token is none or above 2^30, `Range` below the least, and a kind of the caller's above the greatest
+-- a number: `Number` where the token is none or above 2^30, `Range` below the least, and a kind of
+-- the caller's above the greatest
 unfoldable pub number_next : ℕ → ℕ → Kind → Left → Read ℕ
 number_next least most above l = do
   word ← word_next l
@@ -71,14 +73,15 @@ end_next l = at_end l.words where
   at_end (word ∷ words) = fault word.at Trailing
 
 -- so many items, each read after those before it, which it is told
-unfoldable pub many_next : {A : Type 0} → (List A → Left → Read A) → ℕ → List A → Left → Read (List A)
+unfoldable pub many_next : {A : Type 0} → (List A → Left → Read A) → ℕ → List A → Left
+    → Read (List A)
 many_next item zero before l = Ok (before, l)
 many_next item (suc n) before l = do
   first ← item before l
   many_next item n (before ++ first.0 ∷ []) first.1
 
--- What a function of the program returned, seen by `view`, with the tokens that it left, is what reading gives,
--- unless memory ran out. After a fault nothing is said of the tokens.
+-- What a function of the program returned, seen by `view`, with the tokens that it left, is what
+-- reading gives, unless memory ran out. After a fault nothing is said of the tokens.
 abbrev pub GivesFault : {Y : Type 0} → TextFault → Result Y Fault → Type 0
 GivesFault Memory read = Unit {0}
 GivesFault (Wrong at kind) read = read ≡ fault at kind

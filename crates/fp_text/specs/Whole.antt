@@ -4,7 +4,8 @@ use Rattle.fp_text.specs.declared.whole.WholeFault.{WholeFault}
 use Rattle.fp_text.specs.declared.whole.WholeFault.TheVariants.{Missing, Device, Long, Memory}
 
 -- what the reader of a whole file of at most `most` bytes answers for the bytes that the name holds
-abbrev pub IsWhole : {X : Type 0} → (X → List ℕ) → Option (List ℕ) → ℕ → Result X WholeFault → Type 0
+abbrev pub IsWhole : {X : Type 0} → (X → List ℕ) → Option (List ℕ) → ℕ → Result X WholeFault
+    → Type 0
 IsWhole view held most (Ok x) = held ≡ Some (view x)
 IsWhole view held most (Err Missing) = held ≡ None
 IsWhole view held most (Err Long) = (bytes : List ℕ) × (held ≡ Some bytes) × (most < length bytes)

@@ -21,7 +21,8 @@ begun_by at byte (word ∷ words) =
 unfoldable pub words_from : ℕ → List ℕ → List Word
 words_from at [] = []
 words_from at (byte ∷ bytes) =
-    if is_blank byte then words_from (at + 1) bytes else begun_by at byte (words_from (at + 1) bytes)
+    if is_blank byte then words_from (at + 1) bytes else begun_by at byte
+        (words_from (at + 1) bytes)
 
 -- the tokens of a whole text
 abbrev pub words_of : List ℕ → List Word
@@ -39,7 +40,8 @@ pub record IsToken (bytes : List ℕ) (word : Word) : Type 0 where
   pub stands : word.text ≡ take (length word.text) (drop word.at bytes)
   pub no_blank : (i : ℕ) → i < length word.text → is_blank (slice_index word.text i) ≡ false
   pub before : 0 < word.at → is_blank (slice_index bytes (word.at - 1)) ≡ true
-  pub behind : word.at + length word.text < length bytes → is_blank (slice_index bytes (word.at + length word.text)) ≡ true
+  pub behind : word.at + length word.text < length bytes
+      → is_blank (slice_index bytes (word.at + length word.text)) ≡ true
 
 -- each token ends before the next begins
 abbrev pub Rise : List Word → Type 0
@@ -49,10 +51,14 @@ Rise (word ∷ next ∷ words) = (word.at + length word.text < next.at) × Rise 
 
 -- a place of the text lies in one of the words
 abbrev pub LiesIn : List Word → ℕ → Type 0
-LiesIn words place = (k : ℕ) × (word : Word) × (k < length words) × (drop k words ≡ word ∷ drop (k + 1) words) × (word.at ≤ place) × (place < word.at + length word.text)
+LiesIn words place = (k : ℕ) × (word : Word) × (k < length words)
+    × (drop k words ≡ word ∷ drop (k + 1) words) × (word.at ≤ place)
+    × (place < word.at + length word.text)
 
--- the words are the tokens of the text: each is one, they rise, and every byte that is no blank lies in one
+-- the words are the tokens of the text: each is one, they rise, and every byte that is no blank
+-- lies in one
 pub record AreTokens (bytes : List ℕ) (words : List Word) : Type 0 where
   pub each : (k : ℕ) (word : Word) → drop k words ≡ word ∷ drop (k + 1) words → IsToken bytes word
   pub rise : Rise words
-  pub cover : (place : ℕ) → place < length bytes → is_blank (slice_index bytes place) ≡ false → LiesIn words place
+  pub cover : (place : ℕ) → place < length bytes → is_blank (slice_index bytes place) ≡ false
+      → LiesIn words place

@@ -15,7 +15,8 @@ pub record Told : Type 0 where
   pub faults : ℕ
 
 abbrev pub told : {F : Type 0} → (F → Option Files) → (F → Option (List ℕ)) → (F → ℕ) → F → Told
-told held made faults folder = record { held = held folder; made = made folder; faults = faults folder }
+told held made faults folder =
+    record { held = held folder; made = made folder; faults = faults folder }
 
 -- the bytes of a name, none where it is not held, where the folder tells what it holds
 abbrev pub text_of : List ℕ → Told → Option (List ℕ)
@@ -38,10 +39,11 @@ pub record Starts (name : List ℕ) (old new : Told) (writer : Waiting) : Type 0
   pub later : old.faults ≤ new.faults
   pub cause : writer.failed ≡ true → Rose old.faults new.faults
 
--- What a call that adds a piece leaves: the text so far is longer by the piece, unless the writer has failed. It comes
--- to have failed only where the faults rose.
+-- What a call that adds a piece leaves: the text so far is longer by the piece, unless the writer
+-- has failed. It comes to have failed only where the faults rose.
 pub record Adds (name piece : List ℕ) (old new : Told) (before after : Waiting) : Type 0 where
-  pub text : after.failed ≡ false → so_far name new after ≡ followed_by piece (so_far name old before)
+  pub text : after.failed ≡ false
+      → so_far name new after ≡ followed_by piece (so_far name old before)
   pub stays_failed : before.failed ≡ true → after.failed ≡ true
   pub cause : before.failed ≡ false → after.failed ≡ true → Rose old.faults new.faults
   pub others : OthersStay name old.held new.held
@@ -49,8 +51,11 @@ pub record Adds (name piece : List ℕ) (old new : Told) (before after : Waiting
   pub later : old.faults ≤ new.faults
 
 -- What the last call leaves, which may fail: the name then holds the whole text so far.
-pub record Finishes (name : List ℕ) (old new : Told) (writer : Waiting) (failed : Bool) : Type 0 where
-  pub holds : failed ≡ false → option_map (λ files. bytes_of files name) new.held ≡ option_map Some (so_far name old writer)
+pub record Finishes (name : List ℕ) (old new : Told) (writer : Waiting)
+    (failed : Bool) : Type 0 where
+  pub holds : failed ≡ false
+      → option_map (λ files. bytes_of files name) new.held ≡ option_map Some
+      (so_far name old writer)
   pub stays_failed : writer.failed ≡ true → failed ≡ true
   pub cause : writer.failed ≡ false → failed ≡ true → Rose old.faults new.faults
   pub others : OthersStay name old.held new.held

@@ -45,7 +45,8 @@ impl<'a> Model for Tokens<'a> {
 
     ghost Value = { Left };
 
-    ghost view = { λ t. record { bytes = t.source.now; words = words_from t.place (drop t.place t.source.now) } };
+    ghost view = { λ t.
+        record { bytes = t.source.now; words = words_from t.place (drop t.place t.source.now) } };
 
     ghost invariant = { λ t. (t.place ≤ length t.source.now) × IsEdge t.source.now t.place };
 }
@@ -56,7 +57,7 @@ fn is_blank(byte: u8) -> bool
     byte == b' ' || byte == b'\t' || byte == b'\r' || byte == b'\n'
 }
 
-/// The first place from `from` on whose byte is a blank, or is none, as `blank` says not; else the end.
+/// The end of the run of blanks, or of other bytes, from `from` on.
 fn run_end(bytes: &[u8], from: usize, blank: bool) -> usize
     requires { from ≤ length bytes.now }
     ensures behind { from ≤ result }
@@ -101,7 +102,7 @@ impl<'a> Tokens<'a> {
         })
     }
 
-    /// The bytes of a token of this text.
+    /// The bytes of a token of this text. Any other place of the text serves too.
     pub fn bytes(&self, token: Token) -> &'a [u8]
         requires order { token.start ≤ token.end }
         requires within { token.end ≤ length self.now.bytes }
@@ -135,7 +136,8 @@ impl<'a> Tokens<'a> {
         }
     }
 
-    /// The place of the next token, which must be this keyword, else `Word` there.
+    /// The place of the next token, which must be this keyword, else `Word` there. `Ended`, at the
+    /// length of the text, where there is no token.
     #[tactic(auto, unfolding(crate::specs::Reading::keyword_next))]
     pub fn keyword(&mut self, keyword: &[u8]) -> Result<u64, TextFault>
         ensures gives { Gives (λ at. at) result self.new (keyword_next keyword.now self.old) }
@@ -153,6 +155,7 @@ impl<'a> Tokens<'a> {
     }
 
     /// The next token, which must be a name: 1 to 255 bytes from 33 to 126. Else `Name` there.
+    /// `Ended`, at the length of the text, where there is no token.
     #[tactic(auto, unfolding(crate::specs::Reading::name_next))]
     pub fn name(&mut self) -> Result<Word<'a>, TextFault>
         ensures gives { Gives word_of result self.new (name_next self.old) }
@@ -169,8 +172,9 @@ impl<'a> Tokens<'a> {
         }
     }
 
-    /// The next token, which must be a number from `least` to `most`. `Number` there where it is none or
-    /// above 2^30, else `Range` where it is below `least`, and the kind `above` where it is above `most`.
+    /// The next token, which must be a number from `least` to `most`. `Number` there where it is
+    /// none or above 2^30, else `Range` where it is below `least`, and the kind `above` where it is
+    /// above `most`. `Ended`, at the length of the text, where there is no token.
     #[tactic(auto, unfolding(crate::specs::Reading::number_next))]
     pub fn number(&mut self, least: u64, most: u64, above: Kind) -> Result<u64, TextFault>
         ensures gives { Gives (λ n. n) result self.new (number_next least most above self.old) }

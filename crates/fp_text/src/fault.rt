@@ -5,7 +5,8 @@ ghost use Rattle.fp_text.specs.declared.fault.TextFault.TheVariants.{Memory};
 
 use std::alloc::{AllocError, AllocFailed};
 
-/// The kind of a text's first fault. The order of the variants says nothing of the order in which they are tried.
+/// The kind of a text's first fault. The order of the variants says nothing of the order in which
+/// they are tried.
 #[derive(Clone, Copy, Debug, PartialEq, Eq)]
 pub enum Kind {
     /// A token is needed and there is none.

@@ -1,4 +1,5 @@
-//! Tokens, numbers and names of a text, reading a grammar up to its first fault, whole files, and a writer of files.
+//! Tokens, numbers and names of a text, reading a grammar up to its first fault, whole files, and a
+//! writer of files.
 #![tactic(auto)]
 
 mod cursor;
@@ -12,3 +13,6 @@ pub use fault::{Kind, TextFault};
 pub use numbers::{NumberFault, number, signed};
 pub use whole::{WholeFault, read_whole};
 pub use writing::Writer;
+
+#[cfg(test)]
+mod tests;

@@ -49,9 +49,11 @@ pub fn read_whole<F: Folder>(
     most: u64,
 ) -> Result<Vec<u8>, WholeFault>
     requires { most ≤ 2 ^ 30 }
-    ensures whole { WhereTold (F.held folder.old) (λ files. IsWhole (λ v. v.items) (bytes_of files name.now) most result) }
+    ensures whole { WhereTold (F.held folder.old)
+        (λ files. IsWhole (λ v. v.items) (bytes_of files name.now) most result) }
     ensures length { IfOk result (λ v. vec_len v ≤ most) }
-    ensures device { IsErrOf result WholeFault.Device → Rose (F.faults folder.old) (F.faults folder.new) }
+    ensures device { IsErrOf result WholeFault.Device
+        → Rose (F.faults folder.old) (F.faults folder.new) }
     ensures held { F.held folder.new ≡ F.held folder.old }
     ensures made { F.made folder.new ≡ F.made folder.old }
     ensures later { F.faults folder.old ≤ F.faults folder.new }

@@ -35,8 +35,9 @@ impl Model for Writer {
 impl Writer {
     /// Creates the name, and a writer of its bytes.
     pub fn new<F: Folder>(folder: &mut F, name: &str) -> Writer
-        ensures { Starts name.now (told F.held F.made F.faults folder.old)
+        ensures starts { Starts name.now (told F.held F.made F.faults folder.old)
             (told F.held F.made F.faults folder.new) result }
+        ensures goes_on { GoesOn name.now (told F.held F.made F.faults folder.new) result }
     {
         Writer {
             buffer: [0; ROOM],
@@ -50,6 +51,7 @@ impl Writer {
         requires { GoesOn name.now (told F.held F.made F.faults folder.old) self.old }
         ensures adds { Adds name.now piece.now (told F.held F.made F.faults folder.old)
             (told F.held F.made F.faults folder.new) self.old self.new }
+        ensures goes_on { GoesOn name.now (told F.held F.made F.faults folder.new) self.new }
         ensures idle { self.old.failed ≡ true → folder.new ≡ folder.old }
     {
         if self.stopped {
@@ -65,7 +67,8 @@ impl Writer {
         requires made { F.made folder.old ≡ Some name.now }
         ensures adds { Adds name.now [] (told F.held F.made F.faults folder.old)
             (told F.held F.made F.faults folder.new) self.old self.new }
-        ensures room { 4096 < length self.new.bytes + needed → self.new.failed ≡ false → self.new.bytes ≡ [] }
+        ensures room { 4096 < length self.new.bytes + needed → self.new.failed ≡ false
+            → self.new.bytes ≡ [] }
     {
         if needed > ROOM - self.used {
             self.flush(folder, name);
@@ -89,7 +92,8 @@ impl Writer {
     /// Adds a piece that fits, or behind which nothing waits.
     fn add<F: Folder>(&mut self, folder: &mut F, name: &str, piece: &[u8])
         requires made { self.old.failed ≡ false → F.made folder.old ≡ Some name.now }
-        requires room { 4096 < length self.old.bytes + length piece.now → self.old.failed ≡ false → self.old.bytes ≡ [] }
+        requires room { 4096 < length self.old.bytes + length piece.now → self.old.failed ≡ false
+            → self.old.bytes ≡ [] }
         ensures adds { Adds name.now piece.now (told F.held F.made F.faults folder.old)
             (told F.held F.made F.faults folder.new) self.old self.new }
     {
@@ -109,7 +113,8 @@ impl Writer {
     /// Keeps a piece that fits.
     fn keep(&mut self, piece: &[u8])
         requires { length self.old.bytes + length piece.now ≤ 4096 }
-        ensures { self.new ≡ record { bytes = self.old.bytes ++ piece.now; failed = self.old.failed } }
+        ensures { self.new
+            ≡ record { bytes = self.old.bytes ++ piece.now; failed = self.old.failed } }
     {
         let end = self.used + piece.len();
         self.buffer[self.used..end].copy_from_slice(piece);
@@ -121,6 +126,7 @@ impl Writer {
         requires { GoesOn name.now (told F.held F.made F.faults folder.old) self.old }
         ensures adds { Adds name.now (decimal value) (told F.held F.made F.faults folder.old)
             (told F.held F.made F.faults folder.new) self.old self.new }
+        ensures goes_on { GoesOn name.now (told F.held F.made F.faults folder.new) self.new }
         ensures idle { self.old.failed ≡ true → folder.new ≡ folder.old }
     {
         let mut digits = Buffer::new();
@@ -132,6 +138,7 @@ impl Writer {
         requires { GoesOn name.now (told F.held F.made F.faults folder.old) self.old }
         ensures adds { Adds name.now (signed_decimal value) (told F.held F.made F.faults folder.old)
             (told F.held F.made F.faults folder.new) self.old self.new }
+        ensures goes_on { GoesOn name.now (told F.held F.made F.faults folder.new) self.new }
         ensures idle { self.old.failed ≡ true → folder.new ≡ folder.old }
     {
         let mut digits = Buffer::new();
