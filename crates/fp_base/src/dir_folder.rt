@@ -22,7 +22,7 @@ const NAME_ROOM: usize = 4096;
 #[derive(Drop)]
 pub struct DirFolder<'r, R: Files> {
     rt: &'r R,
-    open: Option<R::File>,
+    created: Option<R::File>,
     name: Buffer,
     faults: u64,
 }
@@ -35,7 +35,10 @@ impl<'r, R: Files> Model for DirFolder<'r, R> {
 
     ghost coded = { dir_code };
 
-    ghost view = { λ d. record { made = if is_some d.open then Some d.name.bytes else None; faults = d.faults } };
+    ghost view = { λ d. record {
+      made = if is_some d.created then Some d.name.bytes else None;
+      faults = d.faults;
+    } };
 
     ghost invariant = { λ d. d.name.room ≡ 4096 };
 }
@@ -48,7 +51,7 @@ impl<'r, R: Files> DirFolder<'r, R> {
         let name = Buffer::new(alloc, NAME_ROOM)?;
         Ok(DirFolder {
             rt,
-            open: None,
+            created: None,
             name,
             faults: 0,
         })
@@ -81,14 +84,14 @@ impl<'r, R: Files> Folder for DirFolder<'r, R> {
     }
 
     fn create(&mut self, name: &str) -> Result<(), Failed> {
-        self.open = None;
+        self.created = None;
         if name.len() > NAME_ROOM {
             return Err(self.fail());
         }
         match fs::create(self.rt, name) {
             Ok(file) => {
                 self.name.set(name.as_bytes());
-                self.open = Some(file);
+                self.created = Some(file);
                 Ok(())
             }
             Err(_) => Err(self.fail()),
@@ -96,7 +99,7 @@ impl<'r, R: Files> Folder for DirFolder<'r, R> {
     }
 
     fn append(&mut self, _name: &str, piece: &[u8]) -> Result<(), Failed> {
-        let written = match &mut self.open {
+        let written = match &mut self.created {
             Some(file) => write_whole(file, piece),
             None => false,
         };
