@@ -14,7 +14,7 @@ use std::marker::Model;
 use std::rt::Files;
 
 /// The greatest number of bytes of a name that is created.
-const NAME_ROOM: usize = 4096;
+const PATH_ROOM: usize = 4096;
 
 /// The files of the system, by their paths. It tells nothing of what they hold. The file that was
 /// last created stays open. Each error of the system but a file that is not there to be read is a
@@ -44,11 +44,12 @@ impl<'r, R: Files> Model for DirFolder<'r, R> {
 }
 
 impl<'r, R: Files> DirFolder<'r, R> {
-    /// A folder where nothing was created, with no faults.
+    /// A folder where nothing was created, with no faults. It takes room for a name of 4,096 bytes,
+    /// and answers `NoMemory` where that is not there.
     pub fn new(rt: &'r R, alloc: Global) -> Result<DirFolder<'r, R>, NoMemory>
         ensures { IfOk result (λ d. d ≡ record { made = None; faults = 0 }) }
     {
-        let name = Buffer::new(alloc, NAME_ROOM)?;
+        let name = Buffer::new(alloc, PATH_ROOM)?;
         Ok(DirFolder {
             rt,
             created: None,
@@ -85,7 +86,7 @@ impl<'r, R: Files> Folder for DirFolder<'r, R> {
 
     fn create(&mut self, name: &str) -> Result<(), Failed> {
         self.created = None;
-        if name.len() > NAME_ROOM {
+        if name.len() > PATH_ROOM {
             return Err(self.fail());
         }
         match fs::create(self.rt, name) {

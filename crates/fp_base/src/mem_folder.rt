@@ -45,7 +45,8 @@ impl Model for MemFolder {
 
 impl MemFolder {
     /// A folder that holds no name and has no faults, with room for `files` names of `room` bytes
-    /// each. The calls with the numbers in `fails` are to fail.
+    /// each. The calls with the numbers in `fails` are to fail. It answers `NoMemory` where the room
+    /// is not there.
     pub fn new(
         alloc: Global,
         fails: &[u64],

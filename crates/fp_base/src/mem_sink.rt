@@ -33,7 +33,7 @@ impl Model for MemSink {
 
 impl MemSink {
     /// A sink with nothing written and no faults, with room for `room` bytes. The puts with the
-    /// numbers in `fails` are to fail.
+    /// numbers in `fails` are to fail. It answers `NoMemory` where the room is not there.
     pub fn new(alloc: Global, fails: &[u64], room: usize) -> Result<MemSink, NoMemory>
         ensures { IfOk result (λ s. s ≡ record {
           output = record { bytes = []; room = room };
