@@ -2,7 +2,7 @@
 use Rattle.std.proofs.Common.{◌≡◌, ℕ, suc, zero, ◌+◌, ◌<◌, ◌≤◌, Bool, true, false, cond, List, [], ◌∷◌, ◌++◌, length, map, Some, None, get_or, set, ltb, refl, sym, ap, ◌∙◌, arith}
 use Rattle.std.specs.Prelude.{position, IsSome, is_some}
 use mathlib.Core.Bool.{true≢false}
-use Rattle.std.specs.Ordering.{nat_cmp, eq_by_cmp}
+use Rattle.std.specs.Ordering.{nat_cmp}
 use Rattle.std.specs.Cmp.Lexicographic.{slice_cmp, nat_list_cmp_total}
 use Rattle.std.specs.FinMap.{find, len, from_entries, get-insert, get-from_entries, same_map, len-insert, from_entries_push, nat_cmp-IsAntisymmetric, slice_cmp-IsAntisymmetric}
 use Rattle.std.specs.Str.{bytes_eq}
@@ -14,10 +14,8 @@ use Rattle.std.proofs.lemmas.List.{map-append}
 use Rattle.std.specs.List.{position_or_len}
 use Rattle.fp_base.specs.declared.file_table.MemFile.{MemFile}
 use Rattle.fp_base.specs.Files.{Files, bytes_of, with_file}
+use Rattle.fp_base.specs.FilesLaws.{is_same, same_name}
 use Rattle.fp_base.specs.MemoryFiles.{entry_of, files_of, with_bytes}
-
-abbrev Same : List ℕ → List ℕ → Bool
-Same = eq_by_cmp (slice_cmp nat_cmp)
 
 -- a test that is repeated
 repeated : {A : Type 0} (a b : Bool) (x y z : A) → a ≡ b → cond b x z ≡ cond a x (cond b y z)
@@ -32,25 +30,21 @@ exchanged true true x y z apart = absurd (apart refl refl)
 exchanged true false x y z apart = refl
 exchanged false b x y z apart = refl
 
--- names that tie are equal
-same_name : (q k : List ℕ) → Same q k ≡ true → q ≡ k
-same_name q k e = (bytes_eq-Decides q k).0 (sym (is_eq-slice_cmp q k) ∙ e)
-
 -- a look-up after the first file of a name was given other bytes
 pub find_first : (name bytes q : List ℕ) (d : MemFile) (files : List MemFile) (i : ℕ) → i < length files
     → bytes_eq name (get_or files i d).name.bytes ≡ true
     → ((k : ℕ) → k < i → bytes_eq name (get_or files k d).name.bytes ≡ false)
     → find (slice_cmp nat_cmp) q (map entry_of (set files i (with_bytes (get_or files i d) bytes)))
-    ≡ cond (Same q name) (Some bytes) (find (slice_cmp nat_cmp) q (map entry_of files))
+    ≡ cond (is_same q name) (Some bytes) (find (slice_cmp nat_cmp) q (map entry_of files))
 find_first name bytes q d [] i within is first = absurd (omega arith)
 find_first name bytes q d (f ∷ fs) zero within is first =
-    repeated (Same q name) (Same q f.name.bytes) (Some bytes) (Some f.bytes.bytes) (find (slice_cmp nat_cmp) q (map entry_of fs))
-    (ap (Same q) ((bytes_eq-Decides name f.name.bytes).0 is))
+    repeated (is_same q name) (is_same q f.name.bytes) (Some bytes) (Some f.bytes.bytes) (find (slice_cmp nat_cmp) q (map entry_of fs))
+    (ap (is_same q) ((bytes_eq-Decides name f.name.bytes).0 is))
 find_first name bytes q d (f ∷ fs) (suc i) within is first =
-    ap (cond (Same q f.name.bytes) (Some f.bytes.bytes)) (find_first name bytes q d fs i (omega arith) is (λ k h. first (suc k) (omega arith)))
-    ∙ exchanged (Same q name) (Same q f.name.bytes) (Some bytes) (Some f.bytes.bytes) (find (slice_cmp nat_cmp) q (map entry_of fs)) apart
+    ap (cond (is_same q f.name.bytes) (Some f.bytes.bytes)) (find_first name bytes q d fs i (omega arith) is (λ k h. first (suc k) (omega arith)))
+    ∙ exchanged (is_same q name) (is_same q f.name.bytes) (Some bytes) (Some f.bytes.bytes) (find (slice_cmp nat_cmp) q (map entry_of fs)) apart
   where
-    apart : Same q name ≡ true → Same q f.name.bytes ≡ true → ⊥
+    apart : is_same q name ≡ true → is_same q f.name.bytes ≡ true → ⊥
     apart a b =
         let e : name ≡ f.name.bytes = sym (same_name q name a) ∙ same_name q f.name.bytes b in
         true≢false (sym ((bytes_eq-Decides name f.name.bytes).1 e) ∙ first zero (omega arith))
@@ -63,7 +57,7 @@ files_set files name bytes d i e =
     same_map nat_list_cmp_total (slice_cmp-IsAntisymmetric nat_cmp-IsAntisymmetric) _ _ (λ q.
     get-from_entries nat_list_cmp_total (map entry_of (set files i (with_bytes (get_or files i d) bytes))) q
     ∙ find_first name bytes q d files i here.0 here.1 here.2
-    ∙ ap (cond (Same q name) (Some bytes)) (sym (get-from_entries nat_list_cmp_total (map entry_of files) q))
+    ∙ ap (cond (is_same q name) (Some bytes)) (sym (get-from_entries nat_list_cmp_total (map entry_of files) q))
     ∙ sym (get-insert nat_list_cmp_total (files_of files) name bytes q))
 
 -- a look-up, by the first file of the name

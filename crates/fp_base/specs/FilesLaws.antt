@@ -1,5 +1,5 @@
 -- What callers of a folder or a sink need: calls after one another, and one name changed among others.
-use Rattle.std.specs.Prelude.{◌≡◌, ◌≢◌, ℕ, ◌+◌, ◌≤◌, Bool, true, false, cond, List, [], ◌++◌, length, take, Option, Some, None, IsSome, is_some, unwrap_or, refl}
+use Rattle.std.specs.Prelude.{◌≡◌, ◌≢◌, ℕ, ◌+◌, ◌≤◌, Bool, true, false, cond, List, [], ◌++◌, length, take, Option, Some, None, IsSome, is_some, option_map, unwrap_or, refl}
 use Rattle.std.proofs.Common.{sym, ◌∙◌, ap, arith, append_assoc, length-append}
 use Rattle.std.proofs.Math.Seq.{take-length, take-append-add}
 use Rattle.std.proofs.lemmas.List.{append-nil, take-append-le}
@@ -14,20 +14,21 @@ use Rattle.fp_base.specs.Faults.{Rose, one_more}
 use Rattle.fp_base.specs.Files.{Files, bytes_of, with_file, OthersStay, sets_file, followed_by, FrontFollows}
 
 -- whether two names are one
-abbrev Same : List ℕ → List ℕ → Bool
-Same = eq_by_cmp (slice_cmp nat_cmp)
+abbrev pub is_same : List ℕ → List ℕ → Bool
+is_same = eq_by_cmp (slice_cmp nat_cmp)
 
-same_name : (q k : List ℕ) → Same q k ≡ true → q ≡ k
+-- names that tie are equal
+pub same_name : (q k : List ℕ) → is_same q k ≡ true → q ≡ k
 same_name q k e = (bytes_eq-Decides q k).0 (sym (is_eq-slice_cmp q k) ∙ e)
 
-different : (b : Bool) (q k : List ℕ) → Same q k ≡ b → q ≢ k → Same q k ≡ false
+different : (b : Bool) (q k : List ℕ) → is_same q k ≡ b → q ≢ k → is_same q k ≡ false
 different true q k e apart = absurd (apart (same_name q k e))
 different false q k e apart = e
 
-apart_from : (q k : List ℕ) → Same q k ≡ false → q ≢ k
+apart_from : (q k : List ℕ) → is_same q k ≡ false → q ≢ k
 apart_from q k e same =
-    let tied : Same k k ≡ true = ap is_eq (tied_itself nat_list_cmp_total k) in
-    let untied : Same k k ≡ false = sym (ap (λ r. Same r k) same) ∙ e in
+    let tied : is_same k k ≡ true = ap is_eq (tied_itself nat_list_cmp_total k) in
+    let untied : is_same k k ≡ false = sym (ap (λ r. is_same r k) same) ∙ e in
     cc
 
 -- a name that was set holds these bytes
@@ -41,13 +42,13 @@ pub bytes_others : (files : Files) (name bytes other : List ℕ) → other ≢ n
     → bytes_of (with_file files name bytes) other ≡ bytes_of files other
 bytes_others files name bytes other apart =
     get-insert nat_list_cmp_total files name bytes other
-    ∙ ap (λ b. cond b (Some bytes) (bytes_of files other)) (different (Same other name) other name refl apart)
+    ∙ ap (λ b. cond b (Some bytes) (bytes_of files other)) (different (is_same other name) other name refl apart)
 
 -- a name that was held is held after any name was set
 pub held_later : (files : Files) (name bytes other : List ℕ) → IsSome (bytes_of files other)
     → IsSome (bytes_of (with_file files name bytes) other)
 held_later files name bytes other held =
-    ap is_some (get-insert nat_list_cmp_total files name bytes other) ∙ by_test (Same other name)
+    ap is_some (get-insert nat_list_cmp_total files name bytes other) ∙ by_test (is_same other name)
   where
     by_test : (b : Bool) → is_some (cond b (Some bytes) (bytes_of files other)) ≡ true
     by_test true = refl
@@ -59,8 +60,8 @@ pub set_twice : (files : Files) (name first second : List ℕ)
 set_twice files name first second =
     same_map nat_list_cmp_total (slice_cmp-IsAntisymmetric nat_cmp-IsAntisymmetric) _ _ (λ other.
     get-insert nat_list_cmp_total (with_file files name first) name second other
-    ∙ ap (cond (Same other name) (Some second)) (get-insert nat_list_cmp_total files name first other)
-    ∙ hidden (Same other name) (Some second) (Some first) (bytes_of files other)
+    ∙ ap (cond (is_same other name) (Some second)) (get-insert nat_list_cmp_total files name first other)
+    ∙ hidden (is_same other name) (Some second) (Some first) (bytes_of files other)
     ∙ sym (get-insert nat_list_cmp_total files name second other))
   where
     hidden : (b : Bool) (x y z : Option (List ℕ)) → cond b x (cond b y z) ≡ cond b x z
@@ -91,9 +92,9 @@ pub is_set : (old new : Files) (name bytes : List ℕ) → OthersStay name (Some
     → new ≡ with_file old name bytes
 is_set old new name bytes stay holds =
     same_map nat_list_cmp_total (slice_cmp-IsAntisymmetric nat_cmp-IsAntisymmetric) _ _ (λ other.
-    by_test other (Same other name) refl ∙ sym (get-insert nat_list_cmp_total old name bytes other))
+    by_test other (is_same other name) refl ∙ sym (get-insert nat_list_cmp_total old name bytes other))
   where
-    by_test : (other : List ℕ) (b : Bool) → Same other name ≡ b → bytes_of new other ≡ cond b (Some bytes) (bytes_of old other)
+    by_test : (other : List ℕ) (b : Bool) → is_same other name ≡ b → bytes_of new other ≡ cond b (Some bytes) (bytes_of old other)
     by_test other true e = ap (bytes_of new) (same_name other name e) ∙ holds
     by_test other false e = stay other (apart_from other name e)
 
@@ -105,6 +106,13 @@ set_then name first second (Some files) =
     let bytes : List ℕ = first (unwrap_or (bytes_of files name) []) in
     ap Some (ap (λ o. with_file (with_file files name bytes) name (second (unwrap_or o []))) (bytes_set files name bytes)
     ∙ set_twice files name bytes (second bytes))
+
+-- what the name holds after it was set
+pub bytes_after : (name : List ℕ) (change : List ℕ → List ℕ) (held : Option Files)
+    → option_map (λ files. unwrap_or (bytes_of files name) []) (sets_file name change held)
+    ≡ option_map (λ files. change (unwrap_or (bytes_of files name) [])) held
+bytes_after name change None = refl
+bytes_after name change (Some files) = ap (λ o. Some (unwrap_or o [])) (bytes_set files name (change (unwrap_or (bytes_of files name) [])))
 
 -- a count that rose has risen later too
 pub rose_later : (before after later : ℕ) → Rose before after → after ≤ later → Rose before later

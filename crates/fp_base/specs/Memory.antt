@@ -13,6 +13,9 @@ pub record Filled : Type 0 where
   pub bytes : List ℕ
   pub room : ℕ
 
+abbrev pub filled_code : Coded Filled
+filled_code = code_by (List ℕ × ℕ) (coded× (coded_list coded_ℕ) coded_ℕ) (λ f. (f.bytes, f.room)) (λ p. record { bytes = p.0; room = p.1 }) (λ _. refl)
+
 -- how many calls there were, how many failed, and the numbers of those that are to fail, from 0
 pub record Calls : Type 0 where
   pub so_far : ℕ
@@ -122,17 +125,10 @@ read_answer folder name at most = if is_due folder.calls then Err Failed else co
 abbrev pub after_read : FolderState → FolderState
 after_read folder = if is_due folder.calls then call_failed folder else call_counted folder
 
--- after `put_file`
-abbrev pub after_put_file : FolderState → List ℕ → List ℕ → FolderState
-after_put_file folder name bytes = if can_hold folder.table name bytes then record folder { table = holding folder.table name bytes } else folder
-
 -- a sink in memory
 pub record SinkState : Type 0 where
   pub output : Filled
   pub calls : Calls
-
-abbrev pub filled_code : Coded Filled
-filled_code = code_by (List ℕ × ℕ) (coded× (coded_list coded_ℕ) coded_ℕ) (λ f. (f.bytes, f.room)) (λ p. record { bytes = p.0; room = p.1 }) (λ _. refl)
 
 abbrev pub sink_code : Coded SinkState
 sink_code =
@@ -146,10 +142,18 @@ bytes_told sink = Some sink.output.bytes
 abbrev pub can_put : SinkState → List ℕ → Bool
 can_put sink piece = not (is_due sink.calls) && nat_le (length sink.output.bytes + length piece) sink.output.room
 
--- the sink after this piece
-abbrev pub written_after : SinkState → List ℕ → Filled
-written_after sink piece = record sink.output { bytes = sink.output.bytes ++ piece }
+-- the sink's output with this behind it
+abbrev pub output_after : SinkState → List ℕ → Filled
+output_after sink piece = record sink.output { bytes = sink.output.bytes ++ piece }
+
+-- after a put that went well
+abbrev pub put_whole : SinkState → List ℕ → SinkState
+put_whole sink piece = record { output = output_after sink piece; calls = counted sink.calls }
 
 -- what a failed put leaves of its piece: nothing where it was to fail, and else what fits
-abbrev pub part_put : SinkState → List ℕ → List ℕ
-part_put sink piece = if is_due sink.calls then [] else take (sink.output.room - length sink.output.bytes) piece
+abbrev pub part_of : SinkState → List ℕ → List ℕ
+part_of sink piece = if is_due sink.calls then [] else take (sink.output.room - length sink.output.bytes) piece
+
+-- after a put that failed
+abbrev pub put_part : SinkState → List ℕ → SinkState
+put_part sink piece = record { output = output_after sink (part_of sink piece); calls = failed sink.calls }

@@ -1,6 +1,6 @@
 //! Bytes in room that is taken once, so that filling it later takes no memory.
 
-ghost use Rattle.std.specs.Prelude.{◌≡◌, ◌+◌, ◌≤◌, ◌++◌, [], length, nat_le, IfOk};
+ghost use Rattle.std.specs.Prelude.{◌≡◌, ◌+◌, ◌≤◌, ◌++◌, [], length, IfOk};
 
 use crate::folder::NoMemory;
 use std::alloc::Global;

@@ -14,7 +14,7 @@ use std::marker::Model;
 use std::rt::Files;
 
 /// The greatest number of bytes of a name that is created.
-const NAME_ROOM: usize = 4096;
+const PATH_ROOM: usize = 4096;
 
 /// The files of the system, by their paths. It tells nothing of what they hold. The file that was
 /// last created stays open. Each error of the system but a file that is not there to be read is a
@@ -22,7 +22,7 @@ const NAME_ROOM: usize = 4096;
 #[derive(Drop)]
 pub struct DirFolder<'r, R: Files> {
     rt: &'r R,
-    open: Option<R::File>,
+    created: Option<R::File>,
     name: Buffer,
     faults: u64,
 }
@@ -35,20 +35,24 @@ impl<'r, R: Files> Model for DirFolder<'r, R> {
 
     ghost coded = { dir_code };
 
-    ghost view = { λ d. record { made = if is_some d.open then Some d.name.bytes else None; faults = d.faults } };
+    ghost view = { λ d. record {
+      made = if is_some d.created then Some d.name.bytes else None;
+      faults = d.faults;
+    } };
 
     ghost invariant = { λ d. d.name.room ≡ 4096 };
 }
 
 impl<'r, R: Files> DirFolder<'r, R> {
-    /// A folder where nothing was created, with no faults.
+    /// A folder where nothing was created, with no faults. It takes room for a name of 4,096 bytes,
+    /// and answers `NoMemory` where that is not there.
     pub fn new(rt: &'r R, alloc: Global) -> Result<DirFolder<'r, R>, NoMemory>
         ensures { IfOk result (λ d. d ≡ record { made = None; faults = 0 }) }
     {
-        let name = Buffer::new(alloc, NAME_ROOM)?;
+        let name = Buffer::new(alloc, PATH_ROOM)?;
         Ok(DirFolder {
             rt,
-            open: None,
+            created: None,
             name,
             faults: 0,
         })
@@ -81,14 +85,14 @@ impl<'r, R: Files> Folder for DirFolder<'r, R> {
     }
 
     fn create(&mut self, name: &str) -> Result<(), Failed> {
-        self.open = None;
-        if name.len() > NAME_ROOM {
+        self.created = None;
+        if name.len() > PATH_ROOM {
             return Err(self.fail());
         }
         match fs::create(self.rt, name) {
             Ok(file) => {
                 self.name.set(name.as_bytes());
-                self.open = Some(file);
+                self.created = Some(file);
                 Ok(())
             }
             Err(_) => Err(self.fail()),
@@ -96,7 +100,7 @@ impl<'r, R: Files> Folder for DirFolder<'r, R> {
     }
 
     fn append(&mut self, _name: &str, piece: &[u8]) -> Result<(), Failed> {
-        let written = match &mut self.open {
+        let written = match &mut self.created {
             Some(file) => write_whole(file, piece),
             None => false,
         };

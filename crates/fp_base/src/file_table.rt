@@ -1,6 +1,8 @@
 //! Files in memory, in room that is taken once.
 
-ghost use Rattle.std.specs.Prelude.{◌≡◌, ◌+◌, ◌≤◌, ◌<◌, ◌++◌, ◌∷◌, [], length, map, position, slice_set, slice_index_or, vec_len, vec_capacity, All, Option, None, IfOk, IfSome, IsSome, IsTrue, nat_lt, if◌then◌else◌, option_copied, nat_le};
+ghost use Rattle.std.specs.Prelude.{◌≡◌, ◌+◌, ◌≤◌, ◌<◌, ◌++◌, All, None, IfOk, IsSome, length};
+ghost use Rattle.std.specs.Prelude.{nat_lt, nat_le, option_copied, position, slice_set};
+ghost use Rattle.std.specs.Prelude.{slice_index_or, vec_len, vec_capacity};
 ghost use Rattle.std.specs.Bool.{OnTrue, OnFalse};
 ghost use Rattle.std.specs.Str.{bytes_eq};
 ghost use Rattle.std.specs.FinMap as finite;
@@ -71,7 +73,8 @@ fn append_at(files: &mut Vec<MemFile>, index: usize, piece: &[u8]) -> bool
     ensures answer { let file = slice_index_or files.old.items index no_file in
         result ≡ nat_le (length file.bytes.bytes + length piece.now) file.bytes.room }
     ensures held { let file = slice_index_or files.old.items index no_file in
-        OnTrue result (files.new.items ≡ slice_set files.old.items index (with_bytes file (file.bytes.bytes ++ piece.now))) }
+        OnTrue result (files.new.items ≡ slice_set files.old.items index
+        (with_bytes file (file.bytes.bytes ++ piece.now))) }
     ensures refused { OnFalse result (files.new.items ≡ files.old.items) }
     ensures capacity { vec_capacity files.new ≡ vec_capacity files.old }
 {
@@ -145,8 +148,10 @@ impl FileTable {
     /// Puts the piece behind what a held name holds, if it fits.
     pub fn append(&mut self, name: &[u8], piece: &[u8]) -> bool
         requires { IsSome (bytes_of self.old.files name.now) }
-        ensures answer { result ≡ nat_le (length (bytes_under self.old name.now) + length piece.now) self.old.room }
-        ensures held { OnTrue result (self.new ≡ holding self.old name.now (bytes_under self.old name.now ++ piece.now)) }
+        ensures answer { let bytes = bytes_under self.old name.now in
+            result ≡ nat_le (length bytes + length piece.now) self.old.room }
+        ensures held { let bytes = bytes_under self.old name.now in
+            OnTrue result (self.new ≡ holding self.old name.now (bytes ++ piece.now)) }
         ensures refused { OnFalse result (self.new ≡ self.old) }
     {
         match place_of(&self.used, name) {

@@ -1,4 +1,5 @@
-//! Ids, the two dies, and the outside as two traits: a folder of files and a sink of printed bytes.
+//! Ids, the two dies, and the outside as two traits, a folder of files and a sink of printed bytes:
+//! in memory for tests, and over the system's files and standard output.
 #![tactic(auto)]
 
 mod buffer;

@@ -1,11 +1,14 @@
 //! A folder in memory, for tests: it tells what it holds, and fails where it is asked to.
 
-ghost use Rattle.std.specs.Prelude.{◌≡◌, ◌≢◌, ◌≤◌, ◌++◌, ◌-◌, min, ℕ, [], List, Option, Some, None, length, take, drop, option_copied, IfOk, OnOk, OnErr, IsErrOf, is_ok};
+ghost use Rattle.std.specs.Prelude.{◌≡◌, ◌≤◌, ◌++◌, ◌-◌, [], Some, None, length, take, drop, min};
+ghost use Rattle.std.specs.Prelude.{option_copied, IfOk, OnOk, OnErr, IsErrOf, is_ok};
 ghost use Rattle.std.specs.Bool.{OnTrue, OnFalse};
 ghost use Rattle.std.specs.FinMap as finite;
 ghost use Rattle.fp_base.specs.Faults.{Rose};
 ghost use Rattle.fp_base.specs.Files.{WhereTold, bytes_of, sets_file, OthersStay, ReadsAt};
-ghost use Rattle.fp_base.specs.Memory.{files_told, can_create, created, not_created, can_append, appended, call_failed, read_answer, after_read, can_hold, holding};
+ghost use Rattle.fp_base.specs.Memory.{files_told, can_create, created, not_created, can_append};
+ghost use Rattle.fp_base.specs.Memory.{appended, call_failed, read_answer, after_read};
+ghost use Rattle.fp_base.specs.Memory.{can_hold, holding};
 
 use crate::buffer::Buffer;
 use crate::call_count::CallCount;
@@ -42,7 +45,8 @@ impl Model for MemFolder {
 
 impl MemFolder {
     /// A folder that holds no name and has no faults, with room for `files` names of `room` bytes
-    /// each. The calls with the numbers in `fails` are to fail.
+    /// each. The calls with the numbers in `fails` are to fail. It answers `NoMemory` where the room
+    /// is not there.
     pub fn new(
         alloc: Global,
         fails: &[u64],
@@ -70,7 +74,9 @@ impl MemFolder {
     /// exactly where the name or the bytes do not fit, and then nothing changes.
     pub fn put_file(&mut self, name: &str, bytes: &[u8]) -> bool
         ensures answer { result ≡ can_hold self.old.table name.now bytes.now }
-        ensures held { OnTrue result (self.new ≡ record self.old { table = holding self.old.table name.now bytes.now }) }
+        ensures held { OnTrue result (self.new ≡ record self.old {
+          table = holding self.old.table name.now bytes.now;
+        }) }
         ensures refused { OnFalse result (self.new ≡ self.old) }
     {
         self.table.set(name.as_bytes(), bytes)
@@ -101,12 +107,15 @@ impl Folder for MemFolder {
 
     fn read_at(&mut self, name: &str, at: u64, buf: &mut [u8]) -> Result<usize, ReadFault>
         ensures within { IfOk result (λ count. count ≤ length buf.new) }
-        ensures bytes { WhereTold (files_told self.old) (λ files. ReadsAt (bytes_of files name.now) at result buf.new) }
+        ensures bytes { WhereTold (files_told self.old)
+            (λ files. ReadsAt (bytes_of files name.now) at result buf.new) }
         ensures held { files_told self.new ≡ files_told self.old }
         ensures made { self.new.made ≡ self.old.made }
         ensures later { self.old.calls.faults ≤ self.new.calls.faults }
-        ensures missing { IsErrOf result ReadFault.Missing → self.new.calls.faults ≡ self.old.calls.faults }
-        ensures cause { IsErrOf result ReadFault.Failed → Rose self.old.calls.faults self.new.calls.faults }
+        ensures missing { IsErrOf result ReadFault.Missing →
+            self.new.calls.faults ≡ self.old.calls.faults }
+        ensures cause { IsErrOf result ReadFault.Failed →
+            Rose self.old.calls.faults self.new.calls.faults }
         ensures answer { result ≡ read_answer self.old name.now at (length buf.old) }
         ensures after { self.new ≡ after_read self.old }
         ensures rest { IfOk result (λ count. drop count buf.new ≡ drop count buf.old) }
@@ -123,7 +132,8 @@ impl Folder for MemFolder {
     }
 
     fn create(&mut self, name: &str) -> Result<(), Failed>
-        ensures created { OnOk result (files_told self.new ≡ sets_file name.now (λ _. []) (files_told self.old)) }
+        ensures created { OnOk result (files_told self.new ≡
+            sets_file name.now (λ _. []) (files_told self.old)) }
         ensures made { OnOk result (self.new.made ≡ Some name.now) }
         ensures others { OthersStay name.now (files_told self.old) (files_told self.new) }
         ensures not_made { OnErr result (self.new.made ≡ None) }
@@ -146,7 +156,8 @@ impl Folder for MemFolder {
 
     fn append(&mut self, name: &str, piece: &[u8]) -> Result<(), Failed>
         requires { self.old.made ≡ Some name.now }
-        ensures appended { OnOk result (files_told self.new ≡ sets_file name.now (λ bytes. bytes ++ piece.now) (files_told self.old)) }
+        ensures appended { OnOk result (files_told self.new ≡
+            sets_file name.now (λ bytes. bytes ++ piece.now) (files_told self.old)) }
         ensures made { self.new.made ≡ self.old.made }
         ensures others { OthersStay name.now (files_told self.old) (files_told self.new) }
         ensures later { self.old.calls.faults ≤ self.new.calls.faults }

@@ -1,9 +1,9 @@
 //! A sink in memory, for tests: it tells what was written, and fails where it is asked to.
 
-ghost use Rattle.std.specs.Prelude.{◌≡◌, ◌≤◌, ◌++◌, [], Option, Some, IfOk, OnOk, OnErr, is_ok};
+ghost use Rattle.std.specs.Prelude.{◌≡◌, ◌≤◌, [], IfOk, OnOk, OnErr, is_ok};
 ghost use Rattle.fp_base.specs.Faults.{Rose};
 ghost use Rattle.fp_base.specs.Files.{followed_by, FrontFollows};
-ghost use Rattle.fp_base.specs.Memory.{bytes_told, can_put, written_after, part_put, counted, failed};
+ghost use Rattle.fp_base.specs.Memory.{bytes_told, can_put, put_whole, put_part};
 
 use crate::buffer::Buffer;
 use crate::call_count::CallCount;
@@ -33,7 +33,7 @@ impl Model for MemSink {
 
 impl MemSink {
     /// A sink with nothing written and no faults, with room for `room` bytes. The puts with the
-    /// numbers in `fails` are to fail.
+    /// numbers in `fails` are to fail. It answers `NoMemory` where the room is not there.
     pub fn new(alloc: Global, fails: &[u64], room: usize) -> Result<MemSink, NoMemory>
         ensures { IfOk result (λ s. s ≡ record {
           output = record { bytes = []; room = room };
@@ -66,16 +66,15 @@ impl Sink for MemSink {
     ghost faults = { λ s. s.calls.faults };
 
     fn put(&mut self, piece: &[u8]) -> Result<(), Failed>
-        ensures put { OnOk result (bytes_told self.new ≡ followed_by piece.now (bytes_told self.old)) }
-        ensures front { OnErr result (FrontFollows piece.now (bytes_told self.old) (bytes_told self.new)) }
+        ensures put { OnOk result
+            (bytes_told self.new ≡ followed_by piece.now (bytes_told self.old)) }
+        ensures front { OnErr result
+            (FrontFollows piece.now (bytes_told self.old) (bytes_told self.new)) }
         ensures later { self.old.calls.faults ≤ self.new.calls.faults }
         ensures cause { OnErr result (Rose self.old.calls.faults self.new.calls.faults) }
         ensures answer { is_ok result ≡ can_put self.old piece.now }
-        ensures ok { OnOk result (self.new ≡ record { output = written_after self.old piece.now; calls = counted self.old.calls }) }
-        ensures err { OnErr result (self.new ≡ record {
-          output = written_after self.old (part_put self.old piece.now);
-          calls = failed self.old.calls;
-        }) }
+        ensures ok { OnOk result (self.new ≡ put_whole self.old piece.now) }
+        ensures err { OnErr result (self.new ≡ put_part self.old piece.now) }
     {
         if self.calls.is_due() {
             self.calls.fail();
