@@ -17,14 +17,14 @@ pub data Cause : Type 0 where
   IsLong : Cause
   IsWrong : ℕ → Kind → Cause
 
--- the cause is that of what the name holds
+-- the cause is that of what the name holds; bytes with a first fault say no problem
 abbrev pub HasCause : Option (List ℕ) → Cause → Type 0
 HasCause None IsMissing = Unit {0}
 HasCause None IsLong = ⊥
 HasCause None (IsWrong at kind) = ⊥
 HasCause (Some bytes) IsMissing = ⊥
 HasCause (Some bytes) IsLong = most_input < length bytes
-HasCause (Some bytes) (IsWrong at kind) = (length bytes ≤ most_input) × (problem_of bytes ≡ fault at kind)
+HasCause (Some bytes) (IsWrong at kind) = (length bytes ≤ most_input) × (problem_of bytes ≡ fault at kind) × ((text : ProblemText) → Reads bytes text → ⊥)
 
 -- what a name holds is an input file that says this problem
 abbrev pub HoldsProblem : Option (List ℕ) → ProblemText → Type 0

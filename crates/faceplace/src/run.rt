@@ -11,7 +11,7 @@ ghost use Rattle.faceplace.specs.Status.{code_of};
 ghost use Rattle.faceplace.specs.Run.{outside, EndsAs, Refuses};
 
 use crate::input::{Stop, read_input};
-use crate::out::write_out;
+use crate::output::write_out;
 use crate::report::{Cause, input_report, seed_report};
 use crate::request::{Request, request_of};
 use crate::status::{Status, tell};
@@ -57,6 +57,23 @@ fn seed<F: Folder, S: Sink>(
     tell(out, report.as_str(), Status::Done)
 }
 
+/// Does what the words ask for.
+fn serve<F: Folder, S: Sink>(
+    alloc: Global,
+    words: &[String],
+    folder: &mut F,
+    out: &mut S,
+) -> Status
+    ensures { EndsAs (asks (map string_bytes words.now)) (code_of result)
+        (outside (F.held folder.old) (S.written out.old) (F.faults folder.old) (S.faults out.old))
+        (outside (F.held folder.new) (S.written out.new) (F.faults folder.new) (S.faults out.new)) }
+{
+    match request_of(words) {
+        None => tell(out, "words\n", Status::BadWords),
+        Some(Request::Seed { input, output }) => seed(alloc, input, output, folder, out),
+    }
+}
+
 /// Does what the words ask for, and answers the exit status:
 /// 0 where it is done, 1 for want of memory, 2 where the words are no request, 3 where the input file is
 /// not held, too long or not in its grammar, and 6 where the folder's or the sink's faults rose.
@@ -71,9 +88,5 @@ pub fn run<F: Folder, S: Sink>(alloc: Global, words: &[String], folder: &mut F, 
         → (Rose (F.faults folder.old) (F.faults folder.new) → ⊥) → (Rose (S.faults out.old) (S.faults out.new) → ⊥)
         → (result ≡ 0) ⊎ (result ≡ 1) }
 {
-    let status = match request_of(words) {
-        None => tell(out, "words\n", Status::BadWords),
-        Some(Request::Seed { input, output }) => seed(alloc, input, output, folder, out),
-    };
-    status.code()
+    serve(alloc, words, folder, out).code()
 }
