@@ -16,6 +16,7 @@ use Rattle.std.proofs.Math.Seq.{take-append_seam, take-length}
 use Rattle.fp_tech.specs.declared.fault.BuildFault.{BuildFault}
 use Rattle.fp_tech.specs.declared.fault.BuildFault.TheVariants.{Twice, Unknown, Limit, Memory}
 use Rattle.fp_tech.specs.Book.{Pin, Lib, Tech, Book, place_of, is_among, tech_names, pin_names, libs_of, lib_in, has, has_name, id_for, changed_at, with_name, with_tech, with_lib, with_pin, more_libs, more_pins, pins_added, pins_in, refusal, pins_refusal, pin_refusal, Adds, IsLib, IsTech, IsBook}
+use Rattle.fp_tech.specs.BookLaws.{place_within, length-changed_at, map-changed_at, slice_get_some, libs_at, libs_within, number_free}
 use Rattle.fp_tech.specs.KeptBook.{techs_of, book_of, IsKeptBook, id_of, pins_at}
 use Rattle.fp_tech.proofs.NameLemmas.{is_some-place}
 use Rattle.fp_tech.proofs.LibraryLemmas.{absent_at, touched, found_id}
@@ -94,18 +95,6 @@ changed_kept change library alike (n ∷ ns) (l ∷ ls) zero d below h = ap (λ 
 changed_kept change library alike (n ∷ ns) (l ∷ ls) (suc t) d below h =
     ap (λ rest. record { name = n; libs = l } ∷ rest) (changed_kept change library alike ns ls t d (omega arith) (omega arith))
 
-length-changed_at : {A : Type 0} (t : ℕ) (change : A → A) (xs : List A) → length (changed_at t change xs) ≡ length xs
-unfolding changed_at
-length-changed_at t change [] = refl
-length-changed_at zero change (x ∷ xs) = refl
-length-changed_at (suc t) change (x ∷ xs) = ap suc (length-changed_at t change xs)
-
-map-changed_at : {A B : Type 0} (f : A → B) (t : ℕ) (change : A → A) → ((x : A) → f (change x) ≡ f x) → (xs : List A) → map f (changed_at t change xs) ≡ map f xs
-unfolding changed_at
-map-changed_at f t change same [] = refl
-map-changed_at f zero change same (x ∷ xs) = ap (λ y. y ∷ map f xs) (same x)
-map-changed_at f (suc t) change same (x ∷ xs) = ap (λ rest. f x ∷ rest) (map-changed_at f t change same xs)
-
 sum-changed_at : {A : Type 0} (f : A → ℕ) (t : ℕ) (change : A → A) (n : ℕ) → ((x : A) → f (change x) ≡ f x + n) → (xs : List A) → t < length xs
     → sum_by f (changed_at t change xs) ≡ sum_by f xs + n
 unfolding changed_at
@@ -122,24 +111,6 @@ All-changed_at P Q zero change (x ∷ xs) all keeps changes =
     All-cons Q (change x) xs (changes x refl (All-head P x xs all)) (λ k d below. keeps (get_or xs k d) (All-tail P x xs all k d below))
 All-changed_at P Q (suc t) change (x ∷ xs) all keeps changes =
     All-cons Q x (changed_at t change xs) (keeps x (All-head P x xs all)) (All-changed_at P Q t change xs (All-tail P x xs all) keeps changes)
-
-place_behind : (p n : ℕ) (o : Option ℕ) → option_map (λ k. k + 1) o ≡ Some p → ((q : ℕ) → o ≡ Some q → q < n) → p < suc n
-place_behind p n None f rest = absurd (let no : None ≡ Some p = f in cc)
-place_behind p n (Some q) f rest = let below : q < n = rest q refl in let same : q + 1 ≡ p = cc in omega arith
-
-place_cases : (b : Bool) (p n : ℕ) (o : Option ℕ) → (if b then Some 0 else option_map (λ k. k + 1) o) ≡ Some p → ((q : ℕ) → o ≡ Some q → q < n) → p < suc n
-place_cases true p n o f rest = let same : 0 ≡ p = cc in omega arith
-place_cases false p n o f rest = place_behind p n o f rest
-
-pub place_within : (name : List ℕ) (names : List (List ℕ)) (p : ℕ) → place_of name names ≡ Some p → p < length names
-unfolding place_of
-place_within name [] p e = absurd (let no : None ≡ Some p = e in cc)
-place_within name (n ∷ ns) p e = place_cases (bytes_eq n name) p (length ns) (place_of name ns) e (λ q at. place_within name ns q at)
-
-slice_get_some : {A : Type 0} (xs : List A) (k : ℕ) → k < length xs → slice_get xs k ≡ None → ⊥
-slice_get_some [] k below none = omega arith
-slice_get_some (x ∷ xs) zero below none = cc
-slice_get_some (x ∷ xs) (suc k) below none = slice_get_some xs k (omega arith) none
 
 -- a library cell of more names
 more_named : (n m : ℕ) → n ≤ m → (lib : Lib) → IsLib n lib → IsLib m lib
@@ -167,42 +138,6 @@ absent_id id libs none = numbers libs ∙ absent_at id libs ∙ ap is_some none
     numbers : (ls : List Lib) → list_any (nat_eq id) (map (λ lib. lib.id) ls) ≡ list_any (λ k. nat_eq id k.0) (map id_of ls)
     numbers [] = refl
     numbers (x ∷ xs) = ap (λ b. nat_eq id x.id || b) (numbers xs)
-
--- numbers that are all less
-find_none : (n : ℕ) (libs : List Lib) → All (IsLib n) libs → find (λ lib. lib.id == n) libs ≡ None
-find_none n [] all = refl
-find_none n (x ∷ xs) all =
-    let less : x.id < n = (All-head (IsLib n) x xs all).named in
-    let other : nat_eq x.id n ≡ false = grind (arith, nat_tests) in
-    ap (λ b. cond b (Some x) (find (λ lib. lib.id == n) xs)) other ∙ find_none n xs (All-tail (IsLib n) x xs all)
-
--- the libraries of a technology that is there
-pub libs_at : (book : Book) (t : ℕ) (tech : Tech) → slice_get book.techs t ≡ Some tech → libs_of book t ≡ tech.libs
-unfolding libs_of
-libs_at book t tech at = ap (λ o. unwrap_or (option_map (λ x. x.libs) o) []) at
-
--- each library is within the limits
-pub libs_within : (book : Book) (t : ℕ) → IsBook book → t < length book.techs → (tech : Tech) × (slice_get book.techs t ≡ Some tech) × IsTech (length book.names) tech
-libs_within book t is below = by (slice_get book.techs t) refl
-  where
-    by : (o : Option Tech) → slice_get book.techs t ≡ o → (tech : Tech) × (slice_get book.techs t ≡ Some tech) × IsTech (length book.names) tech
-    by None e = absurd (slice_get_some book.techs t below e)
-    by (Some tech) e = (tech, e, subst (IsTech (length book.names)) (get_or_from_slice_get book.techs t tech tech e) (is.techs t tech below))
-
--- a technology without the name has no cell of the number that the name has or gets
-pub number_free : (book : Book) (t : ℕ) (name : List ℕ) → IsBook book → t < length book.techs → has_name book t name ≡ false
-    → find (λ lib. lib.id == id_for book name) (libs_of book t) ≡ None
-unfolding lib_in
-number_free book t name is below free = by (place_of name book.names) free
-  where
-    within : All (IsLib (length book.names)) (libs_of book t)
-    within = let tech = libs_within book t is below in subst (All (IsLib (length book.names))) (sym (libs_at book t tech.0 tech.1)) tech.2.libs
-    none_if : {A : Type 0} (o : Option A) → is_some o ≡ false → o ≡ None
-    none_if None e = refl
-    none_if (Some x) e = cc
-    by : (o : Option ℕ) → is_some (option_and_then (λ id. lib_in book t id) o) ≡ false → find (λ lib. lib.id == unwrap_or o (length book.names)) (libs_of book t) ≡ None
-    by None e = find_none (length book.names) (libs_of book t) within
-    by (Some id) e = none_if (find (λ lib. lib.id == id) (libs_of book t)) e
 
 -- a name's number is below the number of names, once it is added
 id_named : (names : List (List ℕ)) (name : List ℕ) → unwrap_or (place_of name names) (length names) < length (with_name names name)

@@ -1,4 +1,5 @@
 pub mod Book
+pub mod BookLaws
 pub mod KeptBook
 pub mod KeptDies
 pub mod KeptGrid

@@ -268,3 +268,41 @@ impl TechBook {
         }
     }
 }
+
+#[cfg(test)]
+mod tests {
+    use super::*;
+    use std::test::Fail;
+
+    #[test]
+    fn technologies(rt: HostRuntime) -> Result<(), Fail> {
+        let mut book = TechBook::new(rt.alloc());
+        for letter in b'A'..b'Q' {
+            book.add_tech(&[letter])?;
+            assert_eq!(&rt; book.add_tech(&[letter]).err(), Some(BuildFault::Twice));
+        }
+        assert_eq!(&rt; book.techs(), 16);
+        assert_eq!(&rt; book.add_tech(b"Z").err(), Some(BuildFault::Limit));
+        assert_eq!(&rt; book.tech_named(b"C"), Some(TechId(2)));
+        assert_eq!(&rt; book.tech_name(TechId(2)), b"C".as_slice());
+        Ok(())
+    }
+
+    #[test]
+    fn library_cells(rt: HostRuntime) -> Result<(), Fail> {
+        let mut book = TechBook::new(rt.alloc());
+        let first = book.add_tech(b"TA")?;
+        let second = book.add_tech(b"TB")?;
+        let inverter = book.add_lib(first, b"INV", 3, 5)?;
+        let buffer = book.add_lib(second, b"BUF", 4, 6)?;
+        assert_eq!(&rt; book.add_lib(second, b"INV", 2, 6)?, inverter);
+        assert_eq!(&rt; book.libs_of(second), [buffer, inverter].as_slice());
+        book.add_pin(second, inverter, b"Y", 1, 2)?;
+        assert_eq!(&rt; book.add_pin(second, inverter, b"Y", 0, 0).err(), Some(BuildFault::Twice));
+        assert_eq!(&rt; book.size(second, inverter), (2, 6));
+        assert_eq!(&rt; book.pins_of(second, inverter), 1);
+        assert_eq!(&rt; book.pin_at(second, inverter, 0), Point { x: 1, y: 2 });
+        assert_eq!(&rt; book.pin_named(second, inverter, b"Y"), Some(0));
+        Ok(())
+    }
+}

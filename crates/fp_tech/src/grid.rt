@@ -206,3 +206,46 @@ fn edge_margin(size: u32, spacing: u32) -> u32
 {
     spacing + (size + 1) / 2
 }
+
+#[cfg(test)]
+mod tests {
+    use super::*;
+    use std::process::Abort;
+
+    fn expect_slot(
+        rt: &impl Abort,
+        frame: Frame,
+        terminal: TermSpec,
+        slots: u32,
+        slot: u32,
+        centre: Point,
+    )
+        requires frame { IsFrame frame }
+        requires terminal { IsTermSpec terminal }
+    {
+        let grid = grid_of(frame, terminal);
+        assert_eq!(rt; grid.slots(), slots);
+        assert!(rt; slot < slots);
+        assert_eq!(rt; grid.centre(SlotId(slot)), centre);
+    }
+
+    #[test]
+    fn slots_of_small_frames(rt: HostRuntime) {
+        let frame = Frame { llx: 0, lly: 0, urx: 20, ury: 20 };
+        let terminal = TermSpec { size_x: 2, size_y: 2, spacing: 1 };
+        expect_slot(&rt, frame, terminal, 36, 7, Point { x: 5, y: 5 });
+        let wide = TermSpec { size_x: 10, size_y: 10, spacing: 4 };
+        expect_slot(&rt, frame, wide, 1, 0, Point { x: 9, y: 9 });
+        let tight = Frame { llx: 3, lly: 3, urx: 20, ury: 20 };
+        assert_eq!(&rt; grid_of(tight, wide).slots(), 0);
+    }
+
+    #[test]
+    fn stride_of_a_large_frame(rt: HostRuntime) {
+        let frame = Frame { llx: 0, lly: 0, urx: 4096, ury: 4096 };
+        let terminal = TermSpec { size_x: 1, size_y: 1, spacing: 1 };
+        expect_slot(&rt, frame, terminal, 1_048_576, 0, Point { x: 2, y: 2 });
+        expect_slot(&rt, frame, terminal, 1_048_576, 1_048_575, Point { x: 4094, y: 4094 });
+        assert_eq!(&rt; grid_of(frame, terminal).across(), 1024);
+    }
+}
