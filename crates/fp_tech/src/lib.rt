@@ -12,3 +12,4 @@ pub use book::TechBook;
 pub use dies::{DieSpec, Dies, DiesFault, Frame, Segment, TermSpec};
 pub use fault::BuildFault;
 pub use grid::Grid;
+pub use names::Names;

@@ -7,7 +7,7 @@ use indexmap::IndexSet;
 use std::alloc::{AllocError, Global};
 use std::marker::Model;
 
-/// Names in the order of adding.
+/// Names of one kind, numbered from 0 in the order of adding, and found by hashing.
 #[derive(Drop)]
 pub struct Names {
     set: IndexSet<Vec<u8>>,
@@ -22,6 +22,7 @@ impl Model for Names {
 }
 
 impl Names {
+    /// No names, which takes no memory.
     pub fn new(alloc: Global) -> Names
         ensures { result ≡ [] }
     {
@@ -30,12 +31,14 @@ impl Names {
         }
     }
 
+    /// The number of names.
     pub fn len(&self) -> usize
         ensures { result ≡ length self.now }
     {
         self.set.len()
     }
 
+    /// The name of that number.
     pub fn name(&self, place: usize) -> &[u8]
         requires { place < length self.now }
         ensures { slice_get self.now place ≡ Some result.now }
@@ -43,6 +46,7 @@ impl Names {
         self.set.as_slice()[place].as_slice()
     }
 
+    /// The number of a name, or None exactly where it is not there.
     pub fn place(&self, name: &[u8]) -> Option<usize>
         ensures place { result ≡ place_of name.now self.now }
         ensures within { IfSome result (λ p. p < length self.now) }
@@ -50,7 +54,7 @@ impl Names {
         self.set.get_index_of(name)
     }
 
-    /// Adds a name that is not there.
+    /// Adds a name that is not there. Where memory is wanting the names stay as they were.
     pub fn push(&mut self, alloc: Global, name: &[u8]) -> Result<(), AllocError>
         requires { place_of name.now self.old ≡ None }
         ensures ok { OnOk result (self.new ≡ self.old ++ name.now ∷ []) }
@@ -61,7 +65,8 @@ impl Names {
         Ok(())
     }
 
-    /// The place of a name, which is added where it is not there.
+    /// The number of a name, which is added where it is not there. Where memory is wanting the names
+    /// stay as they were.
     pub fn place_or_push(&mut self, alloc: Global, name: &[u8]) -> Result<usize, AllocError>
         ensures place { IfOk result (λ p. p ≡ unwrap_or (place_of name.now self.old) (length self.old)) }
         ensures ok { OnOk result (self.new ≡ with_name self.old name.now) }
