@@ -1,5 +1,6 @@
 pub use Rattle.fp_tech.specs.Book
 pub use Rattle.fp_tech.specs.Plan
 pub use Rattle.fp_tech.specs.Slots
+pub mod KeptGroups
 pub mod Netlist
 pub mod Points
