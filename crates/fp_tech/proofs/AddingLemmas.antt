@@ -16,18 +16,10 @@ use Rattle.std.proofs.Math.Seq.{take-append_seam, take-length}
 use Rattle.fp_tech.specs.declared.fault.BuildFault.{BuildFault}
 use Rattle.fp_tech.specs.declared.fault.BuildFault.TheVariants.{Twice, Unknown, Limit, Memory}
 use Rattle.fp_tech.specs.Book.{Pin, Lib, Tech, Book, place_of, is_among, tech_names, pin_names, libs_of, lib_in, has, has_name, id_for, changed_at, with_name, with_tech, with_lib, with_pin, more_libs, more_pins, pins_added, pins_in, refusal, pins_refusal, pin_refusal, Adds, IsLib, IsTech, IsBook}
-use Rattle.fp_tech.specs.BookLaws.{place_within, length-changed_at, map-changed_at, slice_get_some, libs_at, libs_within, number_free}
+use Rattle.fp_tech.specs.BookLaws.{place_within, length-changed_at, map-changed_at, slice_get_some, libs_at, libs_within, number_free, distinct_names}
 use Rattle.fp_tech.specs.KeptBook.{techs_of, book_of, IsKeptBook, id_of, pins_at}
-use Rattle.fp_tech.proofs.NameLemmas.{is_some-place}
 use Rattle.fp_tech.proofs.LibraryLemmas.{absent_at, touched, found_id}
 use Rattle.fp_tech.proofs.BookLemmas.{length-techs_of, names-techs_of, libs-techs_of, distinct-nil, IsSeen, seen, has_in_range}
-
--- a name that has no place is equal to none
-absent_name : (names : List (List ℕ)) (name : List ℕ) → place_of name names ≡ None → list_any (bytes_eq name) names ≡ false
-absent_name names name new = is_some-place (λ n. n) name names ∙ ap (λ ns. is_some (place_of name ns)) (map-id names) ∙ ap is_some new
-
-distinct_names : (names : List (List ℕ)) (name : List ℕ) → IsDistinct bytes_eq names → place_of name names ≡ None → IsDistinct bytes_eq (names ++ name ∷ [])
-distinct_names names name apart new = IsDistinct-push nat_list_eq_equiv names name apart (absent_name names name new)
 
 -- adding a technology
 pub with_tech_is_book : (book : Book) (name : List ℕ) → IsBook book → length book.techs < 16 → place_of name (tech_names book) ≡ None → IsBook (with_tech book name)

@@ -93,21 +93,6 @@ nothing_kept names techs libraries no_names no_techs no_libraries =
       };
     }
 
--- a library cell that is found is within the limits
-pub cell_within : (book : Book) (t id : ℕ) (l : Lib) → IsBook book → lib_in book t id ≡ Some l → IsLib (length book.names) l
-unfolding libs_of lib_in
-cell_within book t id l is found = by (slice_get book.techs t) refl
-  where
-    at : (o : Option Tech) → slice_get book.techs t ≡ o → find (λ (lib : Lib). lib.id == id) (unwrap_or (option_map (λ (tech : Tech). tech.libs) o) []) ≡ Some l
-    at o e = ap (λ o. find (λ (lib : Lib). lib.id == id) (unwrap_or (option_map (λ (tech : Tech). tech.libs) o) [])) (sym e) ∙ found
-    by : (o : Option Tech) → slice_get book.techs t ≡ o → IsLib (length book.names) l
-    by None e = absurd (let no : None ≡ Some l = at None e in cc)
-    by (Some tech) e =
-        let tech_is : IsTech (length book.names) tech = subst (IsTech (length book.names)) (get_or_from_slice_get book.techs t tech tech e) (is.techs t tech (slice_get_within book.techs t tech e)) in
-        let place : slice_get tech.libs (position_or_len (λ (lib : Lib). lib.id == id) tech.libs) ≡ Some l = sym (find_at (λ (lib : Lib). lib.id == id) tech.libs) ∙ at (Some tech) e in
-        subst (IsLib (length book.names)) (get_or_from_slice_get tech.libs (position_or_len (λ (lib : Lib). lib.id == id) tech.libs) l l place)
-        (tech_is.libs (position_or_len (λ (lib : Lib). lib.id == id) tech.libs) l (slice_get_within tech.libs (position_or_len (λ (lib : Lib). lib.id == id) tech.libs) l place))
-
 -- the pins of a technology's library cell are those of the cell that is found
 pub pins_are : (book : Book) (t id : ℕ) (l : Lib) → lib_in book t id ≡ Some l → pins_in book t id ≡ l.pins
 pins_are book t id l found = ap (λ o. unwrap_or (option_map (λ (lib : Lib). lib.pins) o) []) found

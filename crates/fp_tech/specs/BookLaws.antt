@@ -1,10 +1,14 @@
 -- Laws of the book: what is there after each adding.
-use Rattle.std.specs.Prelude.{◌≡◌, ◌≢◌, ◌==◌, ℕ, ◌+◌, ◌<◌, ◌≤◌, ◌^◌, Bool, true, false, cond, List, [], ◌∷◌, ◌++◌, length, map, Option, Some, None, is_some, option_map, option_and_then, unwrap_or, slice_get, nat_eq, find, All, IsTrue, if◌then◌else◌}
+use Rattle.std.specs.Prelude.{◌≡◌, ◌≢◌, ◌==◌, ◌||◌, ℕ, ◌+◌, ◌<◌, ◌≤◌, ◌^◌, Bool, true, false, cond, List, [], ◌∷◌, ◌++◌, length, map, Option, Some, None, is_some, option_map, option_and_then, unwrap_or, slice_get, nat_eq, find, All, IsTrue, if◌then◌else◌}
 use Rattle.std.proofs.Common.{zero, suc, get_or, refl, sym, ap, subst, ◌∙◌, arith}
 use Rattle.std.specs.Str.{bytes_eq}
+use Rattle.std.specs.List.{IsDistinct, list_any, position_or_len}
+use Rattle.std.proofs.lemmas.Cmp.{nat_list_eq_equiv}
+use Rattle.std.proofs.lemmas.Map.Keys.{IsDistinct-push}
+use Rattle.std.proofs.lemmas.List.Folds.{find_at}
 use Rattle.std.proofs.lemmas.List.{map-append, length-append}
 use Rattle.std.proofs.lemmas.List.Elements.{All-head, All-tail}
-use Rattle.std.proofs.lemmas.Option.{get_or_from_slice_get, slice_get_past}
+use Rattle.std.proofs.lemmas.Option.{get_or_from_slice_get, slice_get_past, slice_get_within}
 use Rattle.std.proofs.lemmas.Bool.{eq-eqb}
 use Rattle.std.proofs.lemmas.Bool.Decides.{nat_tests}
 use Rattle.fp_tech.specs.Book.{Pin, Lib, Tech, Book, place_of, tech_names, libs_of, lib_in, pins_in, has, has_name, id_for, changed_at, with_name, with_tech, with_lib, with_pin, more_libs, more_pins, pins_added, IsLib, IsTech, IsBook}
@@ -21,6 +25,23 @@ pub place_within : (name : List ℕ) (names : List (List ℕ)) (p : ℕ) → pla
 unfolding place_of
 place_within name [] p e = absurd (let no : None ≡ Some p = e in cc)
 place_within name (n ∷ ns) p e = place_cases (bytes_eq n name) p (length ns) (place_of name ns) e (λ q at. place_within name ns q at)
+
+-- a name that has no place is equal to none, so with it the names stay distinct
+is_among-any : (name : List ℕ) (names : List (List ℕ)) → list_any (bytes_eq name) names ≡ is_some (place_of name names)
+unfolding place_of
+is_among-any name [] = refl
+is_among-any name (n ∷ ns) =
+    ap (λ b. b || list_any (bytes_eq name) ns) (nat_list_eq_equiv.symm name n)
+    ∙ ap (λ b. bytes_eq n name || b) (is_among-any name ns)
+    ∙ by (bytes_eq n name) (place_of name ns)
+  where
+    by : (b : Bool) (rest : Option ℕ) → (b || is_some rest) ≡ is_some (if b then Some 0 else option_map (λ k. k + 1) rest)
+    by true rest = refl
+    by false None = refl
+    by false (Some k) = refl
+
+pub distinct_names : (names : List (List ℕ)) (name : List ℕ) → IsDistinct bytes_eq names → place_of name names ≡ None → IsDistinct bytes_eq (names ++ name ∷ [])
+distinct_names names name apart new = IsDistinct-push nat_list_eq_equiv names name apart (is_among-any name names ∙ ap is_some new)
 
 pub slice_get_some : {A : Type 0} (xs : List A) (k : ℕ) → k < length xs → slice_get xs k ≡ None → ⊥
 slice_get_some [] k below none = omega arith
@@ -59,6 +80,21 @@ libs_within book t is below = by (slice_get book.techs t) refl
     by : (o : Option Tech) → slice_get book.techs t ≡ o → (tech : Tech) × (slice_get book.techs t ≡ Some tech) × IsTech (length book.names) tech
     by None e = absurd (slice_get_some book.techs t below e)
     by (Some tech) e = (tech, e, subst (IsTech (length book.names)) (get_or_from_slice_get book.techs t tech tech e) (is.techs t tech below))
+
+-- a library cell that is found is within the limits
+pub cell_within : (book : Book) (t id : ℕ) (l : Lib) → IsBook book → lib_in book t id ≡ Some l → IsLib (length book.names) l
+unfolding libs_of lib_in
+cell_within book t id l is found = by (slice_get book.techs t) refl
+  where
+    at : (o : Option Tech) → slice_get book.techs t ≡ o → find (λ (lib : Lib). lib.id == id) (unwrap_or (option_map (λ (tech : Tech). tech.libs) o) []) ≡ Some l
+    at o e = ap (λ o. find (λ (lib : Lib). lib.id == id) (unwrap_or (option_map (λ (tech : Tech). tech.libs) o) [])) (sym e) ∙ found
+    by : (o : Option Tech) → slice_get book.techs t ≡ o → IsLib (length book.names) l
+    by None e = absurd (let no : None ≡ Some l = at None e in cc)
+    by (Some tech) e =
+        let tech_is : IsTech (length book.names) tech = subst (IsTech (length book.names)) (get_or_from_slice_get book.techs t tech tech e) (is.techs t tech (slice_get_within book.techs t tech e)) in
+        let place : slice_get tech.libs (position_or_len (λ (lib : Lib). lib.id == id) tech.libs) ≡ Some l = sym (find_at (λ (lib : Lib). lib.id == id) tech.libs) ∙ at (Some tech) e in
+        subst (IsLib (length book.names)) (get_or_from_slice_get tech.libs (position_or_len (λ (lib : Lib). lib.id == id) tech.libs) l l place)
+        (tech_is.libs (position_or_len (λ (lib : Lib). lib.id == id) tech.libs) l (slice_get_within tech.libs (position_or_len (λ (lib : Lib). lib.id == id) tech.libs) l place))
 
 -- a technology without the name has no cell of the number that the name has or gets
 pub number_free : (book : Book) (t : ℕ) (name : List ℕ) → IsBook book → t < length book.techs → has_name book t name ≡ false

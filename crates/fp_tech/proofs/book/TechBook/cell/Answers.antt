@@ -1,6 +1,7 @@
 use Rattle.std.proofs.Common.{◌≡◌, rules, sym}
 use Rattle.fp_tech.specs.Book.{lib_in}
-use Rattle.fp_tech.proofs.BookLemmas.{cell_within, pins_are}
+use Rattle.fp_tech.specs.BookLaws.{cell_within}
+use Rattle.fp_tech.proofs.BookLemmas.{pins_are}
 use Rattle.fp_tech.proofs.book.TechBook.cell.Goals as goal
 
 pub returns-clause-within : goal.returns-clause-within
