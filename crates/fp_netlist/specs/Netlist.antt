@@ -1,11 +1,13 @@
 -- A problem as plain lists: the dies, the cells, the nets and the connections, each numbered from 0 in file order.
 use Rattle.std.specs.Prelude.{◌≡◌, ℕ, ◌+◌, ◌<◌, ◌≤◌, ◌^◌, Bool, true, false, not, ◌&&◌, ◌||◌, ◌==◌, nat_le, if◌then◌else◌, List, [], ◌∷◌, ◌++◌, length, map, All, Option, Some, None, is_some, is_none, option_and_then, option_map, unwrap_or, slice_get}
+use Rattle.std.specs.List.{IsDistinct}
+use Rattle.std.specs.Str.{bytes_eq}
 use Rattle.fp_base.specs.declared.ids.CellId.{CellId}
 use Rattle.fp_base.specs.declared.ids.NetId.{NetId}
 use Rattle.fp_base.specs.declared.ids.Die.{Die}
 use Rattle.fp_base.specs.declared.ids.Die.TheVariants.{Top, Bottom}
 use Rattle.fp_tech.specs.declared.fault.BuildFault.{BuildFault}
-use Rattle.fp_tech.specs.Book.{Lib, place_of, is_among, lib_in, pin_names, refusal}
+use Rattle.fp_tech.specs.Book.{Lib, place_of, is_among, lib_in, pin_names, refusal, IsBook}
 use Rattle.fp_tech.specs.Plan.{Plan, IsPlan, spec_of}
 use Rattle.fp_netlist.specs.declared.problem.Conn.{Conn}
 
@@ -28,16 +30,22 @@ abbrev pub cell_names : Netlist → List (List ℕ)
 cell_names p = map (λ cell. cell.name) p.cells
 
 -- a library cell in the technology of a die, where it is there
+abbrev pub lib_for : Plan → ℕ → Die → Option Lib
+lib_for plan lib die = lib_in plan.book (spec_of plan die).tech.0 lib
+
 abbrev pub lib_at : Netlist → ℕ → Die → Option Lib
-lib_at p lib die = lib_in p.plan.book (spec_of p.plan die).tech.0 lib
+lib_at p lib die = lib_for p.plan lib die
 
 -- the number of a cell's library cell
 abbrev pub lib_of : Netlist → ℕ → ℕ
 lib_of p cell = unwrap_or (option_map (λ c. c.lib) (slice_get p.cells cell)) 0
 
--- the place of a pin's name in a cell's library cell, in the technology of a die
+-- the place of a pin's name in a library cell, in the technology of a die
+abbrev pub pin_for : Plan → ℕ → List ℕ → Die → Option ℕ
+pin_for plan lib pin die = option_and_then (λ l. place_of pin (pin_names l)) (lib_for plan lib die)
+
 abbrev pub pin_place : Netlist → ℕ → List ℕ → Die → Option ℕ
-pin_place p cell pin die = option_and_then (λ lib. place_of pin (pin_names lib)) (lib_at p (lib_of p cell) die)
+pin_place p cell pin die = pin_for p.plan (lib_of p cell) pin die
 
 -- why an adding call refuses
 abbrev pub inst_refusal : Netlist → List ℕ → ℕ → Option BuildFault
@@ -100,8 +108,11 @@ pub record IsConn (p : Netlist) (conn : Conn) : Type 0 where
 -- what every problem keeps
 pub record IsSound (p : Netlist) : Type 0 where
   pub plan : IsPlan p.plan
+  pub book : IsBook p.plan.book
   pub few_cells : length p.cells ≤ 2 ^ 18
   pub few_nets : length p.nets ≤ 2 ^ 18
   pub few_conns : length p.conns ≤ 2 ^ 21
+  pub cells_apart : IsDistinct bytes_eq (cell_names p)
+  pub nets_apart : IsDistinct bytes_eq p.nets
   pub cells : All (IsCell p) p.cells
   pub conns : All (IsConn p) p.conns

@@ -1,7 +1,10 @@
 //! The netlist: cells, nets and connections over two dies, cross-linked by numbers.
 #![tactic(auto)]
 
+mod builder;
 mod groups;
+mod kept;
 mod problem;
 
-pub use problem::Conn;
+pub use builder::ProblemBuilder;
+pub use problem::{Conn, Problem};

@@ -1,0 +1,25 @@
+use Rattle.std.proofs.Common.{rules, ◌≡◌, ◌+◌, ◌<◌, ◌≤◌, ◌∙◌, refl, ap, sym, subst, Some, length, map, slice_get, get_or, arith}
+use Rattle.std.specs.Option.{option_map}
+use Rattle.std.proofs.lemmas.Grind.{common_steps}
+use Rattle.std.proofs.lemmas.Option.{get_or_from_slice_get}
+use Rattle.fp_tech.specs.Book.{place_of}
+use Rattle.fp_netlist.specs.declared.problem.Conn.{Conn}
+use Rattle.fp_netlist.specs.Netlist.{cell_names}
+use Rattle.fp_netlist.specs.Points.{offset}
+use Rattle.fp_netlist.proofs.NetlistLemmas.{seen, size_seen, offset_seen, lib_read, conn_at, conn_in_range, keys_in_range, cell_members, net_members}
+use Rattle.fp_netlist.proofs.problem.Problem.cell_named.Goals as goal
+
+pub returns-in_err-place : goal.returns-in_err-place
+returns-in_err-place c =
+    let s = seen _ _ _ _ _ _ c.self.invariant.kept c.self.view_is in
+    rw (← s.names_are) (search rules)
+
+pub overflow_cast-result : goal.overflow_cast-result
+overflow_cast-result c =
+    let s = seen _ _ _ _ _ _ c.self.invariant.kept c.self.view_is in
+    omega (arith, s.as_many, s.few, c.in_ok-place.ensures.within)
+
+pub returns : goal.returns
+returns c =
+    let s = seen _ _ _ _ _ _ c.self.invariant.kept c.self.view_is in
+    ap (option_map (λ cell. record { 0 = cell })) (c.in_ok-place.ensures.place ∙ ap (place_of c.args.name.now) s.names_are)

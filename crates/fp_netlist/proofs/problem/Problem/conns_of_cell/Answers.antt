@@ -1,0 +1,30 @@
+use Rattle.std.proofs.Common.{rules, ◌≡◌, ◌+◌, ◌<◌, ◌≤◌, ◌∙◌, refl, ap, sym, subst, Some, length, map, slice_get, get_or, arith}
+use Rattle.std.specs.Option.{option_map}
+use Rattle.std.proofs.lemmas.Grind.{common_steps}
+use Rattle.std.proofs.lemmas.Option.{get_or_from_slice_get}
+use Rattle.fp_tech.specs.Book.{place_of}
+use Rattle.fp_netlist.specs.declared.problem.Conn.{Conn}
+use Rattle.fp_netlist.specs.Netlist.{cell_names}
+use Rattle.fp_netlist.specs.Points.{offset}
+use Rattle.fp_netlist.proofs.NetlistLemmas.{seen, size_seen, offset_seen, lib_read, conn_at, conn_in_range, keys_in_range, cell_members, net_members}
+use Rattle.fp_netlist.proofs.problem.Problem.conns_of_cell.Goals as goal
+
+pub group-requires-clause-there : goal.group-requires-clause-there
+group-requires-clause-there c =
+    let s = seen _ _ _ _ _ _ c.self.invariant.kept c.self.view_is in
+    omega (arith, c.self.invariant.by_cell.many, s.many, c.requires)
+
+pub group-requires-clause-rises : goal.group-requires-clause-rises
+group-requires-clause-rises c =
+    let s = seen _ _ _ _ _ _ c.self.invariant.kept c.self.view_is in
+    c.self.invariant.by_cell.rises c.args.cell.0 (omega (arith, s.many, c.requires))
+
+pub group-requires-clause-within : goal.group-requires-clause-within
+group-requires-clause-within c =
+    let s = seen _ _ _ _ _ _ c.self.invariant.kept c.self.view_is in
+    c.self.invariant.by_cell.within c.args.cell.0 (omega (arith, s.many, c.requires))
+
+pub returns : goal.returns
+returns c =
+    let s = seen _ _ _ _ _ _ c.self.invariant.kept c.self.view_is in
+    c.group.ensures ∙ c.self.invariant.by_cell.at c.args.cell.0 (omega (arith, s.many, c.requires)) ∙ cell_members c.self.inside.conns.items c.args.self.now c.args.cell.0 s.conns_are
