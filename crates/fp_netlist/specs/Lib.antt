@@ -5,4 +5,5 @@ pub mod KeptGroups
 pub mod KeptNetlist
 pub mod KeptProblem
 pub mod Netlist
+pub mod NetlistLaws
 pub mod Points
