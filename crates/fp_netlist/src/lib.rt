@@ -8,3 +8,6 @@ mod problem;
 
 pub use builder::ProblemBuilder;
 pub use problem::{Conn, Problem};
+
+#[cfg(test)]
+mod tests;
