@@ -1,8 +1,9 @@
 pub mod Taken
-pub mod Techs
+pub mod TechsAgree
 pub mod Bits
 pub mod Names
 pub mod Fields
 pub mod FieldsAgain
 pub mod SectionsAgree
 pub mod Whole
+pub mod Growth

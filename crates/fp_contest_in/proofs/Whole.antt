@@ -16,7 +16,7 @@ use Rattle.fp_contest_in.specs.Text.{TechText, Setup, ProblemText, tech_name_lis
 use Rattle.fp_contest_in.specs.Grammar.{Numbers, ranged, AreTechs, AreSections, IsNothing, IsProblem, IsNewTech, IsNewSection, section_number, is_in, Reads}
 use Rattle.fp_contest_in.specs.Statements.{techs_next, sections_next, none_found, setup_of, rows_of, setup_checked, nothing_next, front_next, problem_of, has_section, found_count, count_true, bits}
 use Rattle.fp_contest_in.proofs.Taken.{keyword_ok, keyword_again, number_ok, number_again}
-use Rattle.fp_contest_in.proofs.Techs.{techs_ok, techs_again}
+use Rattle.fp_contest_in.proofs.TechsAgree.{techs_ok, techs_again}
 use Rattle.fp_contest_in.proofs.Bits.{has_bit, number_small, all_set}
 use Rattle.fp_contest_in.proofs.Names.{AreNew}
 use Rattle.fp_contest_in.proofs.FieldsAgain.{Agrees, setup_is}

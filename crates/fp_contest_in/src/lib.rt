@@ -3,5 +3,6 @@
 
 mod section;
 mod sections;
+mod techs;
 
 pub use section::Section;

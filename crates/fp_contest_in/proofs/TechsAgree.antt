@@ -11,6 +11,7 @@ use Rattle.fp_tech.specs.Book.{Pin, is_among}
 use Rattle.fp_contest_in.specs.Text.{LibText, TechText, pin_name_list, lib_name_list, tech_name_list}
 use Rattle.fp_contest_in.specs.Grammar.{Keyword, Named, Numbers, Ranged, IsNew, IsNewPin, IsNewLib, IsNewTech, any_number, ranged, most_number, IsPin, IsLib, IsTech, AreTechs}
 use Rattle.fp_contest_in.specs.Statements.{new_name_next, pin_next, sizes_next, lib_next, tech_next, techs_next}
+use Rattle.fp_contest_in.specs.Growing.{pin_item, lib_item, tech_item}
 use Rattle.fp_contest_in.proofs.Taken.{keyword_ok, keyword_again, name_ok, name_again, number_ok, number_again, count_is, spells_as}
 
 -- an item that was read stands in the words, and one that stands there is read
@@ -38,9 +39,6 @@ new_name_again before l name rest n new =
     rw (name_again name l rest n, other, n.2) refl
 
 -- ---- pins
-
-abbrev pin_item : List Pin → Left → Read Pin
-pin_item pins = pin_next (pin_name_list pins)
 
 pin_ok : ItemOk IsNewPin pin_item
 unfolding pin_next
@@ -99,9 +97,6 @@ sizes_again l sizes rest t =
     let h_at = number_again 1 most_number kinds.Range (left_of l t.1) sizes.1 rest (h.0, h.2 ∙ ap (λ (ws : List Word). h.0 ∷ ws) h.4, h.3) (omega arith) in
     rw (w_at, h_at) refl
 
-abbrev lib_item : List LibText → Left → Read LibText
-lib_item libs = lib_next (lib_name_list libs)
-
 lib_ok : ItemOk IsNewLib lib_item
 unfolding lib_next
 lib_ok before l lib r e =
@@ -143,9 +138,6 @@ lib_again before l lib rest (p, new) =
     rw (k, n, s, count, pins) refl
 
 -- ---- technologies
-
-abbrev tech_item : List TechText → Left → Read TechText
-tech_item techs = tech_next (tech_name_list techs)
 
 tech_ok : ItemOk IsNewTech tech_item
 unfolding tech_next
