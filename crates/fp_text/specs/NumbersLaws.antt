@@ -1,8 +1,8 @@
 -- Numbers and names as they are written: what is read of them, and that they are words.
-use Rattle.std.specs.Prelude.{◌≡◌, ℕ, suc, ◌+◌, ◌-◌, ◌*◌, ◌/◌, ◌%◌, ◌^◌, ◌<◌, ◌≤◌, Bool, true, false, List, [], ◌∷◌, ◌++◌, not, nat_lt, ◌&&◌, length, slice_index, decimal, nat_le, Result, Ok, Err, ℤ, pos, negsuc, nat_abs}
+use Rattle.std.specs.Prelude.{◌≡◌, ℕ, suc, ◌+◌, ◌-◌, ◌*◌, ◌/◌, ◌%◌, ◌^◌, ◌<◌, ◌≤◌, Bool, true, false, List, [], ◌∷◌, ◌++◌, not, nat_lt, ◌&&◌, length, decimal, nat_le, Result, Ok, ℤ, pos, negsuc, nat_abs}
 use Rattle.std.specs.List.{list_all}
 use Rattle.std.specs.Fmt.{signed_decimal}
-use Rattle.std.proofs.Common.{refl, sym, ap, ◌∙◌, arith, zero, eqb}
+use Rattle.std.proofs.Common.{refl, ap, ◌∙◌, arith, zero, eqb}
 use Rattle.std.proofs.lemmas.Bool.{and_parts, and_from, not-true, leb-true, le-leb, lt-ltb, ltb-true, ne_eqb, or_from}
 use Rattle.std.proofs.lemmas.List.{length-append}
 use Rattle.std.proofs.lemmas.List.Folds.{list_all-append}
@@ -16,9 +16,9 @@ use Rattle.fp_text.specs.declared.numbers.NumberFault.{NumberFault}
 pub no_blank-above : (byte : ℕ) → 33 ≤ byte → is_blank byte ≡ false
 no_blank-above byte above =
     or_from _ _
-        (or_from _ _
-        (or_from _ _ (ne_eqb byte 32 (λ e. omega arith)) (ne_eqb byte 9 (λ e. omega arith)))
-        (ne_eqb byte 13 (λ e. omega arith))) (ne_eqb byte 10 (λ e. omega arith))
+    (or_from _ _
+    (or_from _ _ (ne_eqb byte 32 (λ e. omega arith)) (ne_eqb byte 9 (λ e. omega arith)))
+    (ne_eqb byte 13 (λ e. omega arith))) (ne_eqb byte 10 (λ e. omega arith))
 
 -- bytes that pass a test which no blank passes
 all-no_blank : (test : ℕ → Bool) → ((byte : ℕ) → test byte ≡ true → is_blank byte ≡ false)
@@ -45,7 +45,7 @@ solid-tested text tested =
       some = ltb-true 0 (length text) parts.0;
       no_blank =
           all-no_blank (λ byte. not (is_blank byte))
-              (λ byte h. not-true (is_blank byte) h) text parts.1;
+          (λ byte h. not-true (is_blank byte) h) text parts.1;
     }
 
 -- digits, and names, are words
@@ -119,8 +119,12 @@ decimal-value n lt = (writes n lt).value
 pub decimal-spells : (least most n : ℕ) → least ≤ n → n ≤ most → n < 2 ^ 64
     → Spells least most (decimal n) n
 decimal-spells least most n at_least at_most lt =
-    record { digits = decimal-digits n lt; value = decimal-value n lt; at_least = at_least;
-    at_most = at_most }
+    record {
+      digits = decimal-digits n lt;
+      value = decimal-value n lt;
+      at_least = at_least;
+      at_most = at_most;
+    }
 
 pub decimal-solid : (n : ℕ) → n < 2 ^ 64 → IsSolid (decimal n)
 decimal-solid n lt = digits-solid (decimal n) (decimal-digits n lt)
@@ -134,7 +138,7 @@ number-decimal most n small lt =
     let digits : is_digits (decimal n) ≡ true = decimal-digits n lt in
     let value : value_of (decimal n) ≡ n = decimal-value n lt in
     let fits : nat_le (value_of (decimal n)) most ≡ true =
-        le-leb (value_of (decimal n)) most (omega arith) in
+    le-leb (value_of (decimal n)) most (omega arith) in
     rw (digits, fits) (ap (λ v. read v) value)
 
 -- digits have no sign in front
@@ -144,8 +148,8 @@ signed_of-digits most [] digits = absurd cc
 signed_of-digits most (byte ∷ text) digits =
     let parts = and_parts _ (list_all is_digit (byte ∷ text)) digits in
     let low : 48 ≤ byte =
-        leb-true 48 byte
-        (and_parts _ _ (and_parts (is_digit byte) (list_all is_digit text) parts.1).0).0 in
+    leb-true 48 byte
+    (and_parts _ _ (and_parts (is_digit byte) (list_all is_digit text) parts.1).0).0 in
     let other : eqb byte 45 ≡ false = ne_eqb byte 45 (λ e. omega arith) in
     rw other refl
 
@@ -154,5 +158,5 @@ pub signed-decimal : (most : ℕ) (z : ℤ) → nat_abs z ≤ most → nat_abs z
     → signed_of most (signed_decimal z) ≡ Ok z
 signed-decimal most (pos n) small lt =
     signed_of-digits most (decimal n) (decimal-digits n lt)
-        ∙ ap above_zero (number-decimal most n small lt)
+    ∙ ap above_zero (number-decimal most n small lt)
 signed-decimal most (negsuc n) small lt = ap below_zero (number-decimal most (suc n) small lt)
