@@ -43,7 +43,7 @@ place_is {A} name_of name (x ∷ xs) k e = here (bytes_eq (name_of x) name) refl
         subst (λ (n : ℕ). (y : A) × (slice_get (x ∷ xs) n ≡ Some y) × (name_of y ≡ name)) m.2 (r.0, slice_get-cons x xs m.0 ∙ r.1, r.2)
 
 -- a name that is not among names is not the first of them, and not among the others
-not_among : (b : Bool) (o : Option ℕ) → is_some (cond b (Some 0) (option_map (λ (n : ℕ). n + 1) o)) ≡ false → (b ≡ false) × (is_some o ≡ false)
+not_among : (b : Bool) (o : Option ℕ) → is_some {T = ℕ} (cond b (Some 0) (option_map (λ (n : ℕ). n + 1) o)) ≡ false → (b ≡ false) × (is_some o ≡ false)
 not_among true o e = absurd cc
 not_among false None e = (refl, refl)
 not_among false (Some k) e = absurd cc
@@ -119,3 +119,21 @@ place-push a n (first ∷ names) none =
     shifted : (b : Bool) (m : ℕ) → option_map (λ (n : ℕ). n + 1) (cond b (Some m) None) ≡ cond b (Some (suc m)) None
     shifted true m = ap Some (add-one m)
     shifted false m = refl
+
+pub is_among-push : (a n : List ℕ) (names : List (List ℕ)) → is_among a (names ++ n ∷ []) ≡ cond (bytes_eq n a) true (is_among a names)
+unfolding place_of
+is_among-push a n [] = one (bytes_eq n a)
+  where
+    one : (b : Bool) → is_some {T = ℕ} (cond b (Some 0) None) ≡ cond b true false
+    one true = refl
+    one false = refl
+is_among-push a n (first ∷ names) = by (bytes_eq first a) (bytes_eq n a) (place_of a names) (place_of a (names ++ n ∷ [])) (is_among-push a n names)
+  where
+    kept : (o : Option ℕ) → is_some (option_map (λ (k : ℕ). k + 1) o) ≡ is_some o
+    kept None = refl
+    kept (Some k) = refl
+    by : (b c : Bool) (o p : Option ℕ) → is_some p ≡ cond c true (is_some o)
+      → is_some {T = ℕ} (cond b (Some 0) (option_map (λ (k : ℕ). k + 1) p)) ≡ cond c true (is_some {T = ℕ} (cond b (Some 0) (option_map (λ (k : ℕ). k + 1) o)))
+    by true true o p e = refl
+    by true false o p e = refl
+    by false c o p e = kept p ∙ e ∙ ap (cond c true) (sym (kept o))
