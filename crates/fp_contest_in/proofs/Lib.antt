@@ -7,3 +7,4 @@ pub mod FieldsAgain
 pub mod SectionsAgree
 pub mod Whole
 pub mod Growth
+pub mod Loops
