@@ -16,7 +16,8 @@ use Rattle.fp_contest_in.specs.declared.section.Section.TheVariants.{DieSize, Ma
 use Rattle.fp_contest_in.specs.declared.section.RowsFound.{RowsFound}
 use Rattle.fp_contest_in.specs.declared.section.DieFound.{DieFound}
 use Rattle.fp_contest_in.specs.declared.section.Found.{Found}
-use Rattle.fp_contest_in.specs.Text.{TechText, Setup, tech_name_list}
+use Rattle.fp_contest_in.specs.declared.section.Setup.{Setup}
+use Rattle.fp_contest_in.specs.Text.{TechText, tech_name_list}
 use Rattle.fp_contest_in.specs.Grammar.{Named, Numbers, Ranged, any_number, ranged, most_number, die_of, NamesTech, HasFields, section_number}
 use Rattle.fp_contest_in.specs.Statements.{frame_next, rows_next, known_tech, tech_name_next, sizes_next, fields_next, die_found, set_die, has_section, bits, setup_of, no_frame, no_rows}
 use Rattle.fp_contest_in.proofs.Taken.{name_ok, name_again, number_ok, number_again}

@@ -8,3 +8,6 @@ pub mod SectionsAgree
 pub mod Whole
 pub mod Growth
 pub mod Loops
+pub mod InRange
+pub mod SectionLoop
+pub mod Dies

@@ -1,8 +1,6 @@
 -- A problem as plain lists, as the input file says it, and the dies that it describes.
 use Rattle.std.specs.Prelude.{ℕ, List, [], ◌∷◌, length, map}
-use Rattle.fp_tech.specs.declared.dies.Frame.{Frame}
-use Rattle.fp_tech.specs.declared.dies.DieSpec.{DieSpec}
-use Rattle.fp_tech.specs.declared.dies.TermSpec.{TermSpec}
+use Rattle.fp_contest_in.specs.declared.section.Setup.{Setup}
 use Rattle.fp_tech.specs.Book.{Pin, Book, no_techs, id_for, with_tech, with_lib, with_pin}
 use Rattle.fp_tech.specs.Plan.{Plan}
 
@@ -16,13 +14,6 @@ pub record LibText : Type 0 where
 pub record TechText : Type 0 where
   pub name : List ℕ
   pub libs : List LibText
-
--- what the nine sections say; a die's technology is given by its number in file order
-pub record Setup : Type 0 where
-  pub frame : Frame
-  pub top : DieSpec
-  pub bottom : DieSpec
-  pub terminal : TermSpec
 
 pub record ProblemText : Type 0 where
   pub techs : List TechText

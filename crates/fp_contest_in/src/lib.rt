@@ -1,8 +1,9 @@
 //! The reader of contest input files.
 #![tactic(auto)]
 
+mod reading;
 mod section;
 mod sections;
 mod techs;
 
-pub use section::Section;
+pub use reading::read_problem;
