@@ -100,6 +100,7 @@ cell_within book t id l is found = by (slice_get book.techs t) refl
   where
     at : (o : Option Tech) → slice_get book.techs t ≡ o → find (λ (lib : Lib). lib.id == id) (unwrap_or (option_map (λ (tech : Tech). tech.libs) o) []) ≡ Some l
     at o e = ap (λ o. find (λ (lib : Lib). lib.id == id) (unwrap_or (option_map (λ (tech : Tech). tech.libs) o) [])) (sym e) ∙ found
+
     by : (o : Option Tech) → slice_get book.techs t ≡ o → IsLib (length book.names) l
     by None e = absurd (let no : None ≡ Some l = at None e in cc)
     by (Some tech) e =

@@ -70,14 +70,17 @@ pin_pushed (e ∷ es) key name x y named new = by (bytes_eq e.0.items name) refl
   where
     same : bytes_eq key.items e.0.items ≡ bytes_eq e.0.items name
     same = ap (λ n. bytes_eq n e.0.items) named ∙ nat_list_eq_equiv.symm name e.0.items
+
     none_behind : (o : Option ℕ) → option_map (λ k. k + 1) o ≡ None → o ≡ None
     none_behind None e = refl
     none_behind (Some k) e = cc
+
     at : (b : Bool) → bytes_eq e.0.items name ≡ b → if b then Some 0 else option_map (λ k. k + 1) (place_of name (map (λ pin. pin.name) (map pin_of es))) ≡ None
     at b found = sym (ap (λ b. if b then Some 0 else option_map (λ k. k + 1) (place_of name (map (λ pin. pin.name) (map pin_of es)))) found) ∙ new
+
     by : (b : Bool) → bytes_eq e.0.items name ≡ b
         → (place_of name (map (λ pin. pin.name) (map pin_of es)) ≡ None
-           → map pin_of (insert_entry (λ a b. bytes_eq a.items b.items) es key (x, y)) ≡ map pin_of es ++ record { name = name; x = x; y = y } ∷ [])
+        → map pin_of (insert_entry (λ a b. bytes_eq a.items b.items) es key (x, y)) ≡ map pin_of es ++ record { name = name; x = x; y = y } ∷ [])
         → map pin_of (insert_entry (λ a b. bytes_eq a.items b.items) (e ∷ es) key (x, y)) ≡ map pin_of (e ∷ es) ++ record { name = name; x = x; y = y } ∷ []
     by true found behind = absurd (let some : Some 0 ≡ None = at true found in cc)
     by false other behind =

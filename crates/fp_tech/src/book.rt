@@ -61,10 +61,8 @@ impl TechBook {
 
     /// Adds a technology. `Limit` exactly at 16 technologies, else `Twice` exactly where the name is there.
     pub fn add_tech(&mut self, name: &[u8]) -> Result<TechId, BuildFault>
-        ensures {
-            Adds (tech_refusal self.old name.now) (record { 0 = length self.old.techs }) self.old
-                (with_tech self.old name.now) result self.new
-        }
+        ensures { Adds (tech_refusal self.old name.now) (record { 0 = length self.old.techs }) self.old
+            (with_tech self.old name.now) result self.new }
     {
         let count = self.techs();
         if count >= TECHS {
@@ -95,10 +93,8 @@ impl TechBook {
         requires width { width ≤ 2 ^ 30 }
         requires some_height { 1 ≤ height }
         requires height { height ≤ 2 ^ 30 }
-        ensures {
-            Adds (lib_refusal self.old tech.0 name.now) (record { 0 = id_for self.old name.now }) self.old
-                (with_lib self.old tech.0 name.now width height) result self.new
-        }
+        ensures { Adds (lib_refusal self.old tech.0 name.now) (record { 0 = id_for self.old name.now }) self.old
+            (with_lib self.old tech.0 name.now width height) result self.new }
     {
         if self.libs_of(tech).len() >= LIBS {
             return Err(BuildFault::Limit);
@@ -110,7 +106,10 @@ impl TechBook {
         let place = self.lib_names.place_or_push(self.alloc, name)?;
         let id = LibId(place as u32);
         let library = &mut self.techs[tech.0 as usize];
-        if library.push(LibCell::new(self.alloc, id, width, height)).is_err() {
+        if library
+            .push(LibCell::new(self.alloc, id, width, height))
+            .is_err()
+        {
             self.lib_names.truncate(count);
             return Err(BuildFault::Memory);
         }
@@ -130,10 +129,8 @@ impl TechBook {
         requires there { IsTrue (has self.old tech.0 lib.0) }
         requires x { x ≤ 2 ^ 30 }
         requires y { y ≤ 2 ^ 30 }
-        ensures {
-            Adds (pin_refusal self.old tech.0 lib.0 name.now) tt self.old
-                (with_pin self.old tech.0 lib.0 (record { name = name.now; x = x; y = y })) result self.new
-        }
+        ensures { Adds (pin_refusal self.old tech.0 lib.0 name.now) tt self.old
+            (with_pin self.old tech.0 lib.0 (record { name = name.now; x = x; y = y })) result self.new }
     {
         let library = &mut self.techs[tech.0 as usize];
         library.add_pin(self.alloc, lib, name, x, y)

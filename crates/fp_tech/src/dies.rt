@@ -105,9 +105,7 @@ impl Dies {
         terminal: TermSpec,
     ) -> Result<Dies, DiesFault>
         requires { IsSetup (record { book = book; frame = frame; top = top; bottom = bottom; terminal = terminal }) }
-        ensures {
-            Makes (record { book = book; frame = frame; top = top; bottom = bottom; terminal = terminal }) result
-        }
+        ensures { Makes (record { book = book; frame = frame; top = top; bottom = bottom; terminal = terminal }) result }
     {
         if !rows_lie(frame, top) {
             return Err(DiesFault::RowsOutside(Die::Top));
@@ -221,12 +219,35 @@ mod tests {
     use std::test::Fail;
 
     // Dies of 20 by 20 with four rows that begin at this x.
-    fn dies_at(rt: &impl Abort, alloc: Global, book: TechBook, tech: TechId, start_x: u32) -> Result<Dies, DiesFault>
+    fn dies_at(
+        rt: &impl Abort,
+        alloc: Global,
+        book: TechBook,
+        tech: TechId,
+        start_x: u32,
+    ) -> Result<Dies, DiesFault>
         requires { start_x ≤ 20 }
     {
-        let frame = Frame { llx: 0, lly: 0, urx: 20, ury: 20 };
-        let terminal = TermSpec { size_x: 2, size_y: 2, spacing: 1 };
-        let spec = DieSpec { percent: 80, tech, start_x, start_y: 0, length: 20, height: 5, repeat: 4 };
+        let frame = Frame {
+            llx: 0,
+            lly: 0,
+            urx: 20,
+            ury: 20,
+        };
+        let terminal = TermSpec {
+            size_x: 2,
+            size_y: 2,
+            spacing: 1,
+        };
+        let spec = DieSpec {
+            percent: 80,
+            tech,
+            start_x,
+            start_y: 0,
+            length: 20,
+            height: 5,
+            repeat: 4,
+        };
         assert!(rt; tech.0 < book.techs());
         Dies::new(alloc, book, frame, spec, spec, terminal)
     }
@@ -238,7 +259,14 @@ mod tests {
         let dies = dies_at(&rt, rt.alloc(), book, tech, 0)?;
         let rows = dies.segments_of(Die::Bottom);
         assert_eq!(&rt; rows.len(), 4);
-        assert_eq!(&rt; rows[3], Segment { y: 15, start: 0, length: 20 });
+        assert_eq!(&rt;
+            rows[3],
+            Segment {
+                y: 15,
+                start: 0,
+                length: 20
+            }
+        );
         assert_eq!(&rt; Grid::of(&dies).slots(), 36);
         Ok(())
     }

@@ -10,7 +10,6 @@ use Rattle.fp_tech.proofs.BookLemmas.{seen, has_in_range}
 use Rattle.fp_tech.proofs.AddingLemmas.{IsKeptAs, tech_added, lib_added, pin_added_at, taken_back, name_taken_back, none_from, nothing_refused, same_kept}
 use Rattle.fp_tech.proofs.book.TechBook.add_pin.Goals as goal
 
-
 pub index_mut-library-requires : goal.index_mut-library-requires
 index_mut-library-requires c =
     let s = seen _ _ _ _ c.self.invariant c.self.view_is in
@@ -37,12 +36,11 @@ add_pin-requires-clause-apart c =
 pub invariant_of-self : goal.invariant_of-self
 invariant_of-self c =
     (pin_added_at c.self.inside.lib_names c.self.inside.tech_names c.self.inside.techs.items c.args.self.now c.args.tech.0 c.args.lib.0
-     (record { name = c.args.name.now; x = c.args.x; y = c.args.y }) c.index_mut-library.result.now c.add_pin.new.self c.add_pin.result
-     c.self.invariant c.self.view_is c.requires.there c.requires.x c.requires.y c.index_mut-library.ensures.value c.add_pin.ensures).0
+    (record { name = c.args.name.now; x = c.args.x; y = c.args.y }) c.index_mut-library.result.now c.add_pin.new.self c.add_pin.result
+    c.self.invariant c.self.view_is c.requires.there c.requires.x c.requires.y c.index_mut-library.ensures.value c.add_pin.ensures).0
 
 pub returns : goal.returns
 returns c =
     (pin_added_at c.self.inside.lib_names c.self.inside.tech_names c.self.inside.techs.items c.args.self.now c.args.tech.0 c.args.lib.0
-     (record { name = c.args.name.now; x = c.args.x; y = c.args.y }) c.index_mut-library.result.now c.add_pin.new.self c.add_pin.result
-     c.self.invariant c.self.view_is c.requires.there c.requires.x c.requires.y c.index_mut-library.ensures.value c.add_pin.ensures).1
-
+    (record { name = c.args.name.now; x = c.args.x; y = c.args.y }) c.index_mut-library.result.now c.add_pin.new.self c.add_pin.result
+    c.self.invariant c.self.view_is c.requires.there c.requires.x c.requires.y c.index_mut-library.ensures.value c.add_pin.ensures).1

@@ -10,7 +10,6 @@ use Rattle.fp_tech.proofs.BookLemmas.{seen, has_in_range}
 use Rattle.fp_tech.proofs.AddingLemmas.{IsKeptAs, tech_added, lib_added, pin_added, taken_back, name_taken_back, none_from, nothing_refused, same_kept}
 use Rattle.fp_tech.proofs.book.TechBook.add_tech.Goals as goal
 
-
 pub push-requires : goal.push-requires
 push-requires c =
     let s = seen _ _ _ _ c.self.invariant c.self.view_is in

@@ -7,6 +7,9 @@ use Rattle.fp_tech.proofs.library.LibCell.add_pin.Goals as goal
 
 pub returns : goal.returns
 returns c =
-    let new : place_of c.args.name.now (pin_names c.args.self.now) ≡ None = grind (arith, common_steps) in
-    (grind (arith, common_steps), refl, cell_grown c.self.inside.id.0 c.self.inside.width c.self.inside.height c.self.inside.pins.entries
-     c.insert.new.self.entries c.in_ok-name.name c.args.name.now c.args.x c.args.y c.args.self.now c.self.view_is c.in_ok-insert.ensures.entries c.in_ok-name.ensures.items new)
+    let new : place_of c.args.name.now (pin_names c.args.self.now) ≡ None = grind (arith, common_steps) in (
+      grind (arith, common_steps),
+      refl,
+      cell_grown c.self.inside.id.0 c.self.inside.width c.self.inside.height c.self.inside.pins.entries
+          c.insert.new.self.entries c.in_ok-name.name c.args.name.now c.args.x c.args.y c.args.self.now c.self.view_is c.in_ok-insert.ensures.entries c.in_ok-name.ensures.items new,
+    )

@@ -22,7 +22,7 @@ pub invariant_of-self : goal.invariant_of-self
 invariant_of-self c =
     c.self.invariant
     ∙ sym (ids_kept c.self.inside.cells.items c.unwrap-place.result c.index_mut-cell.result.now c.add_pin.new.self (stands c)
-           (id_kept _ c.index_mut-cell.result.now _ c.add_pin.new.self c.add_pin.result refl c.add_pin.ensures))
+    (id_kept _ c.index_mut-cell.result.now _ c.add_pin.new.self c.add_pin.result refl c.add_pin.ensures))
 
 pub returns : goal.returns
 returns c =
