@@ -1,8 +1,8 @@
 -- What adding makes of a book and of its kept lists, and that both stay within the limits.
-use Rattle.std.proofs.Common.{◌≡◌, ◌==◌, ℕ, zero, suc, ◌+◌, ◌-◌, ◌*◌, ◌<◌, ◌≤◌, ◌^◌, Bool, true, false, cond, ◌||◌, List, [], ◌∷◌, ◌++◌, length, map, take, Option, Some, None, is_some, IsTrue, if◌then◌else◌, get_or, refl, sym, ap, subst, ◌∙◌, arith, Result, Ok, Err}
+use Rattle.std.proofs.Common.{◌≡◌, ◌==◌, ℕ, zero, suc, ◌+◌, ◌<◌, ◌≤◌, ◌^◌, Bool, true, false, ◌||◌, List, [], ◌∷◌, ◌++◌, length, map, take, Option, Some, None, is_some, IsTrue, if◌then◌else◌, get_or, refl, sym, ap, subst, ◌∙◌, arith, Result, Ok, Err}
 use Rattle.std.specs.Prelude.{nat_eq, nat_le, slice_get, slice_set, find, unwrap_or, All, sum_by}
 use Rattle.std.specs.List.{IsDistinct, list_any, position_or_len}
-use Rattle.std.specs.Option.{option_map, option_and_then}
+use Rattle.std.specs.Option.{option_map}
 use Rattle.std.specs.Str.{bytes_eq}
 use Rattle.std.proofs.lemmas.Cmp.{nat_list_eq_equiv, nat_eq_equiv}
 use Rattle.std.proofs.lemmas.List.{map-append, map-id, length-append, length-map, length-set, set-get_or}
@@ -15,12 +15,12 @@ use Rattle.std.proofs.lemmas.Map.Keys.{IsDistinct-push}
 use Rattle.std.proofs.Math.Seq.{take-append_seam, take-length}
 use Rattle.fp_tech.specs.declared.fault.BuildFault.{BuildFault}
 use Rattle.fp_tech.specs.declared.fault.BuildFault.TheVariants.{Twice, Unknown, Limit, Memory}
-use Rattle.fp_tech.specs.Book.{Pin, Lib, Tech, Book, place_of, is_among, tech_names, pin_names, libs_of, lib_in, has, has_name, id_for, changed_at, with_name, with_tech, with_lib, with_pin, more_libs, more_pins, pins_added, pins_in, refusal, pins_refusal, pin_refusal, Adds, IsLib, IsTech, IsBook}
-use Rattle.fp_tech.specs.BookLaws.{place_within, length-changed_at, map-changed_at, slice_get_some, libs_at, libs_within, number_free}
+use Rattle.fp_tech.specs.Book.{Pin, Lib, Tech, Book, place_of, is_among, tech_names, pin_names, libs_of, lib_in, has, has_name, id_for, changed_at, with_name, with_tech, with_lib, with_pin, more_libs, more_pins, pins_added, refusal, pins_refusal, pin_refusal, Adds, IsLib, IsTech, IsBook}
+use Rattle.fp_tech.specs.BookLaws.{place_within, length-changed_at, map-changed_at, libs_at, number_free}
 use Rattle.fp_tech.specs.KeptBook.{techs_of, book_of, IsKeptBook, id_of, pins_at}
 use Rattle.fp_tech.proofs.NameLemmas.{is_some-place}
 use Rattle.fp_tech.proofs.LibraryLemmas.{absent_at, touched, found_id}
-use Rattle.fp_tech.proofs.BookLemmas.{length-techs_of, names-techs_of, libs-techs_of, distinct-nil, IsSeen, seen, has_in_range}
+use Rattle.fp_tech.proofs.BookLemmas.{distinct-nil, IsSeen, seen, has_in_range}
 
 -- a name that has no place is equal to none
 absent_name : (names : List (List ℕ)) (name : List ℕ) → place_of name names ≡ None → list_any (bytes_eq name) names ≡ false

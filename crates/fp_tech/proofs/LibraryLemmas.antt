@@ -1,6 +1,6 @@
 -- Library cells by their numbers, and a pin added to one of them.
-use Rattle.std.proofs.Common.{◌≡◌, ◌≢◌, ◌==◌, ℕ, zero, suc, ◌+◌, ◌-◌, ◌<◌, ◌≤◌, Bool, true, false, cond, ◌||◌, List, [], ◌∷◌, ◌++◌, length, map, take, Option, Some, None, is_some, IsSome, if◌then◌else◌, position, get_or, refl, sym, ap, subst, ◌∙◌, arith, Result, Ok, Err, add-one}
-use Rattle.std.specs.Prelude.{nat_eq, nat_lt, slice_get, slice_set, find, unwrap_or}
+use Rattle.std.proofs.Common.{◌≡◌, ◌==◌, ℕ, zero, suc, ◌+◌, Bool, true, false, cond, ◌||◌, List, [], ◌∷◌, ◌++◌, map, Option, Some, None, is_some, IsSome, if◌then◌else◌, position, get_or, refl, sym, ap, subst, ◌∙◌, Result, Ok, Err, add-one}
+use Rattle.std.specs.Prelude.{nat_eq, slice_get, slice_set, find, unwrap_or}
 use Rattle.std.proofs.lemmas.Bool.{eq-eqb, eqb-true}
 use Rattle.std.proofs.lemmas.List.{map-append}
 use Rattle.std.proofs.lemmas.Map.Keys.{IsDistinct-head, IsDistinct-tail}
@@ -9,7 +9,6 @@ use Rattle.indexmap.specs.IndexSet.{insert_key}
 use Rattle.std.specs.List.{list_any, IsDistinct, AllByRecursion}
 use Rattle.std.specs.Option.{option_map, option_and_then}
 use Rattle.std.proofs.lemmas.Cmp.{nat_eq_equiv}
-use Rattle.std.proofs.lemmas.Grind.{common_steps}
 use Rattle.fp_base.specs.declared.ids.LibId.{LibId}
 use Rattle.fp_tech.specs.declared.fault.BuildFault.{BuildFault}
 use Rattle.fp_tech.specs.declared.fault.BuildFault.TheVariants.{Twice, Unknown, Limit, Memory}

@@ -1,13 +1,13 @@
 -- Laws of the book: what is there after each adding.
-use Rattle.std.specs.Prelude.{◌≡◌, ◌≢◌, ◌==◌, ℕ, ◌+◌, ◌<◌, ◌≤◌, ◌^◌, Bool, true, false, cond, List, [], ◌∷◌, ◌++◌, length, map, Option, Some, None, is_some, option_map, option_and_then, unwrap_or, slice_get, nat_eq, find, All, IsTrue, if◌then◌else◌}
-use Rattle.std.proofs.Common.{zero, suc, get_or, refl, sym, ap, subst, ◌∙◌, arith}
+use Rattle.std.specs.Prelude.{◌≡◌, ◌≢◌, ◌==◌, ℕ, ◌+◌, ◌<◌, Bool, true, false, cond, List, [], ◌∷◌, ◌++◌, length, map, Option, Some, None, is_some, option_map, option_and_then, unwrap_or, slice_get, nat_eq, find, All, IsTrue, if◌then◌else◌}
+use Rattle.std.proofs.Common.{zero, suc, refl, sym, ap, subst, ◌∙◌, arith}
 use Rattle.std.specs.Str.{bytes_eq}
 use Rattle.std.proofs.lemmas.List.{map-append, length-append}
 use Rattle.std.proofs.lemmas.List.Elements.{All-head, All-tail}
-use Rattle.std.proofs.lemmas.Option.{get_or_from_slice_get, slice_get_past}
+use Rattle.std.proofs.lemmas.Option.{get_or_from_slice_get}
 use Rattle.std.proofs.lemmas.Bool.{eq-eqb}
 use Rattle.std.proofs.lemmas.Bool.Decides.{nat_tests}
-use Rattle.fp_tech.specs.Book.{Pin, Lib, Tech, Book, place_of, tech_names, libs_of, lib_in, pins_in, has, has_name, id_for, changed_at, with_name, with_tech, with_lib, with_pin, more_libs, more_pins, pins_added, IsLib, IsTech, IsBook}
+use Rattle.fp_tech.specs.Book.{Pin, Lib, Tech, Book, place_of, tech_names, libs_of, lib_in, pins_in, has, has_name, id_for, changed_at, with_tech, with_lib, with_pin, more_libs, more_pins, pins_added, IsLib, IsTech, IsBook}
 
 place_behind : (p n : ℕ) (o : Option ℕ) → option_map (λ k. k + 1) o ≡ Some p → ((q : ℕ) → o ≡ Some q → q < n) → p < suc n
 place_behind p n None f rest = absurd (let no : None ≡ Some p = f in cc)

@@ -1,16 +1,15 @@
 -- Laws of the grid of slots.
-use Rattle.std.specs.Prelude.{◌≡◌, ◌⊎◌, ℕ, ◌+◌, ◌-◌, ◌*◌, ◌/◌, ◌%◌, ◌<◌, ◌≤◌, ◌^◌, nat_le, if◌then◌else◌, pos, ◌+ℤ◌, ◌≤ℤ◌}
-use Rattle.std.proofs.Common.{zero, suc, refl, sym, ◌∙◌, ap, subst, inl, inr, arith}
+use Rattle.std.specs.Prelude.{◌≡◌, ◌⊎◌, ℕ, ◌+◌, ◌*◌, ◌/◌, ◌%◌, ◌<◌, ◌≤◌}
+use Rattle.std.proofs.Common.{zero, suc, sym, ◌∙◌, ap, inl, inr, arith}
 use Rattle.std.proofs.Math.Nat.{div-mul-le_self, div-add-mod}
 use Rattle.std.proofs.lemmas.Nat.{mul-le, le-div, rows}
 use Rattle.std.proofs.lemmas.Bool.{cases_lt}
 use Rattle.std.proofs.lemmas.Bool.Decides.{nat_tests}
 use Rattle.std.proofs.lemmas.Int.{ints}
 use Rattle.fp_tech.specs.Plan.{IsTermSpec}
-use Rattle.fp_base.specs.declared.ids.Point.{Point}
 use Rattle.fp_tech.specs.declared.dies.Frame.{Frame}
 use Rattle.fp_tech.specs.declared.dies.TermSpec.{TermSpec}
-use Rattle.fp_tech.specs.Slots.{Slots, margin, axis_count, pitch_x, pitch_y, across, up, slot_count, column_x, row_y, centre_of, slot_limit, grid_with, IsLeast, IsGrid, CountsAreExact, KeepsEdges, AreApart}
+use Rattle.fp_tech.specs.Slots.{Slots, margin, axis_count, pitch_x, pitch_y, across, up, slot_count, column_x, row_y, centre_of, slot_limit, grid_with, IsGrid, CountsAreExact, KeepsEdges, AreApart}
 
 steps_below : (room step k : ℕ) → k < room / step + 1 → k * step ≤ room
 steps_below room step k h =

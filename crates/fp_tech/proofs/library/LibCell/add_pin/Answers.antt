@@ -1,7 +1,6 @@
-use Rattle.std.proofs.Common.{◌≡◌, ◌∙◌, None, ap, map, refl, sym, arith}
+use Rattle.std.proofs.Common.{◌≡◌, None, refl, arith}
 use Rattle.std.proofs.lemmas.Grind.{common_steps}
-use Rattle.fp_tech.specs.Book.{place_of, pin_names, pins_refusal}
-use Rattle.fp_tech.specs.KeptBook.{pin_of}
+use Rattle.fp_tech.specs.Book.{place_of, pin_names}
 use Rattle.fp_tech.proofs.NameLemmas.{cell_grown}
 use Rattle.fp_tech.proofs.library.LibCell.add_pin.Goals as goal
 
