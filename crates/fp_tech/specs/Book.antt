@@ -76,6 +76,13 @@ lib_ids book tech = map (λ lib. lib.id) (libs_of book tech)
 abbrev pub id_for : Book → List ℕ → ℕ
 id_for book name = unwrap_or (place_of name book.names) (length book.names)
 
+-- the names of a technology's library cells, in the order of adding
+abbrev pub name_at : List (List ℕ) → ℕ → List ℕ
+name_at names id = unwrap_or (slice_get names id) []
+
+abbrev pub lib_names : Book → ℕ → List (List ℕ)
+lib_names book tech = map (λ lib. name_at book.names lib.id) (libs_of book tech)
+
 -- the technology has a library cell of that name
 abbrev pub has_name : Book → ℕ → List ℕ → Bool
 has_name book tech name = is_some (option_and_then (λ id. lib_in book tech id) (place_of name book.names))

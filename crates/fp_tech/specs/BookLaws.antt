@@ -92,11 +92,11 @@ slice_get-changed_other zero (suc u) change (x ∷ xs) other = refl
 slice_get-changed_other (suc t) zero change (x ∷ xs) other = refl
 slice_get-changed_other (suc t) (suc u) change (x ∷ xs) other = slice_get-changed_other t u change xs (λ e. other (ap suc e))
 
-slice_get-last : {A : Type 0} (xs : List A) (x : A) → slice_get (xs ++ x ∷ []) (length xs) ≡ Some x
+pub slice_get-last : {A : Type 0} (xs : List A) (x : A) → slice_get (xs ++ x ∷ []) (length xs) ≡ Some x
 slice_get-last [] x = refl
 slice_get-last (y ∷ ys) x = slice_get-last ys x
 
-slice_get-front : {A : Type 0} (xs : List A) (x : A) (k : ℕ) → k < length xs → slice_get (xs ++ x ∷ []) k ≡ slice_get xs k
+pub slice_get-front : {A : Type 0} (xs : List A) (x : A) (k : ℕ) → k < length xs → slice_get (xs ++ x ∷ []) k ≡ slice_get xs k
 slice_get-front [] x k below = absurd (omega arith)
 slice_get-front (y ∷ ys) x zero below = refl
 slice_get-front (y ∷ ys) x (suc k) below = slice_get-front ys x k (omega arith)
