@@ -1,4 +1,4 @@
-use Rattle.std.proofs.Common.{◌≡◌, rules, sym}
+use Rattle.std.proofs.Common.{rules}
 use Rattle.fp_tech.specs.Book.{lib_in}
 use Rattle.fp_tech.proofs.BookLemmas.{cell_within, pins_are}
 use Rattle.fp_tech.proofs.book.TechBook.cell.Goals as goal
