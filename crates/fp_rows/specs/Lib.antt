@@ -1,0 +1,5 @@
+pub mod Rows
+pub mod Squares
+pub mod Products
+pub mod Duality
+pub mod SquaresLaws
