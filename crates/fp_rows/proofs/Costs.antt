@@ -6,23 +6,15 @@ use Rattle.std.proofs.lemmas.List.Elements.{recursion_from_All}
 use mir.Syntax.{w128}
 use Rattle.fp_rows.specs.declared.RowCell.{RowCell}
 use Rattle.fp_rows.specs.Squares.{IsCell, AreCells, IsPlace, total_cost, total_weight, squared_cost}
-use Rattle.fp_rows.proofs.Ranges.{cost_range}
-
-pub drop-at : {A : Type 0} (xs : List A) (i : ℕ) (d : A) → i < length xs → drop i xs ≡ get_or xs i d ∷ drop (i + 1) xs
-drop-at xs i d h = rw (add-one, drop-cons xs i d)
+use Rattle.fp_rows.specs.Lists.{drop-at}
+use Rattle.fp_rows.specs.Weights.{weight_low}
+use Rattle.fp_rows.specs.Ranges.{cost_range}
 
 -- cells that are left, their weights small, and a place for each
 pub record AreLeft (cells : List RowCell) (xs : List ℤ) : Type 0 where
   pub each : AllByRecursion IsCell cells
   pub weight : total_weight cells ≤ℤ pos (2 ^ 22)
   pub places : AllByRecursion IsPlace xs
-
-pub weight_low : (cells : List RowCell) → AllByRecursion IsCell cells → pos 0 ≤ℤ total_weight cells
-weight_low [] h = omega (arith, ints)
-weight_low (c ∷ cs) h =
-    let one = h.0.weight_from in
-    let others = weight_low cs h.1 in
-    omega (arith, ints)
 
 left_weight : (c : RowCell) (cs : List RowCell) (xs : List ℤ) → AreLeft (c ∷ cs) xs → c.weight ≤ℤ pos (2 ^ 22)
 left_weight c cs xs h =
@@ -68,15 +60,3 @@ pub total_fits : (cells : List RowCell) (xs : List ℤ) (i : ℕ) (total : ℤ) 
 total_fits cells xs i total h =
     let others = weight_low (drop i cells) h.left.each in
     omega (arith, ints, h.low, h.high)
-
-pub weight_at : (cells : List RowCell) (i : ℕ) (d : RowCell) → AreCells cells → i < length cells → (get_or cells i d).weight ≤ℤ pos (2 ^ 22)
-weight_at cells i d h lt = small cells i d (recursion_from_All IsCell cells h.each) lt h.weight
-  where
-    small : (cells : List RowCell) (i : ℕ) (d : RowCell) → AllByRecursion IsCell cells → i < length cells → total_weight cells ≤ℤ pos (2 ^ 22) → (get_or cells i d).weight ≤ℤ pos (2 ^ 22)
-    small [] i d each lt all = absurd (omega arith)
-    small (c ∷ cs) zero d each lt all =
-        let others = weight_low cs each.1 in
-        omega (arith, ints)
-    small (c ∷ cs) (suc i) d each lt all =
-        let one = each.0.weight_from in
-        small cs i d each.1 (omega arith) (omega (arith, ints))

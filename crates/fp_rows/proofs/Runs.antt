@@ -5,12 +5,7 @@ use Rattle.std.proofs.lemmas.Int.{ints}
 use Rattle.fp_rows.specs.declared.RowCell.{RowCell}
 use Rattle.fp_rows.specs.Rows.{FeasibleBy, ShownBy, FallsBy}
 use Rattle.fp_rows.specs.Squares.{Feasible, AreDuals, width_of, squared_rise}
-use Rattle.fp_rows.proofs.Costs.{drop-at}
-
-drop-all : {A B : Type 0} (xs : List A) (ys : List B) (i : ℕ) → length xs ≡ length ys → length ys ≤ i → i ≤ length ys → drop i xs ≡ []
-drop-all xs ys i e l h =
-    let same : i ≡ length xs = omega arith in
-    rw same (drop-length xs)
+use Rattle.fp_rows.specs.Lists.{drop-at, drop-all}
 
 -- the cells from i on are feasible from here exactly where all are feasible from the start
 pub record IsFrom (cells : List RowCell) (lo hi : ℤ) (xs : List ℤ) (i : ℕ) (from : ℤ) : Type 0 where

@@ -1,7 +1,7 @@
 use Rattle.std.proofs.Common.{◌<◌, pos, ◌+ℤ◌, FitsSigned, w64, length, get_or, arith, rules}
 use Rattle.std.proofs.lemmas.Int.{ints, to_z-of_z}
 use Rattle.fp_rows.specs.declared.RowCell.{RowCell}
-use Rattle.fp_rows.proofs.Costs.{weight_at}
+use Rattle.fp_rows.specs.Weights.{weight_at}
 use Rattle.fp_rows.proofs.Runs.{IsShownFrom, not_touching, not_falling, shown_next, shown_end, shown_are_duals}
 use Rattle.fp_rows.proofs.are_duals.Goals as goal
 use Rattle.fp_rows.proofs.are_duals.Goals.{In-loop-i}

@@ -1,7 +1,7 @@
 use Rattle.std.proofs.Common.{pos, ◌+ℤ◌, ◌-ℤ◌, ◌*ℤ◌, FitsSigned, w64, arith}
 use Rattle.std.proofs.lemmas.Int.{ints, to_z-of_z}
 use Rattle.fp_rows.specs.Squares.{squared_rise}
-use Rattle.fp_rows.proofs.Ranges.{rise_fits}
+use Rattle.fp_rows.specs.Ranges.{rise_fits}
 use Rattle.fp_rows.proofs.rise_at.Goals as goal
 
 pub overflow_mul-result-2 : goal.overflow_mul-result-2

@@ -1,7 +1,7 @@
 use Rattle.std.proofs.Common.{◌≡◌, ◌-ℤ◌, ◌*ℤ◌, FitsSigned, arith}
 use Rattle.std.proofs.lemmas.Int.{ints, to_z-of_z}
 use Rattle.fp_rows.specs.Squares.{squared_cost}
-use Rattle.fp_rows.proofs.Ranges.{square_fits, cost_fits}
+use Rattle.fp_rows.specs.Ranges.{square_fits, cost_fits}
 use Rattle.fp_rows.proofs.square_at.Goals as goal
 use mir.Syntax.{w128}
 
