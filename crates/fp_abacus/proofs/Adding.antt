@@ -1,12 +1,11 @@
 -- A cell that is put in front of clusters, and is joined with those that it would overlap.
-use Rattle.std.proofs.Common.{◌≡◌, ℕ, zero, suc, ◌+◌, ◌*◌, ◌^◌, ◌<◌, ◌≤◌, ◌-◌, ℤ, pos, negsuc, neg_ℤ, ◌+ℤ◌, ◌-ℤ◌, ◌*ℤ◌, ◌≤ℤ◌, ◌<ℤ◌, List, [], ◌∷◌, ◌++◌, length, take, drop, set, get_or, inl, inr, arith, ap, sym, ◌∙◌, subst, refl, append_assoc, length-append}
-use Rattle.std.proofs.lemmas.Int.{ints, by_lt_z}
+use Rattle.std.proofs.Common.{◌≡◌, ℕ, suc, ◌+◌, ◌^◌, ◌<◌, ◌≤◌, ◌-◌, ℤ, pos, negsuc, neg_ℤ, ◌+ℤ◌, ◌-ℤ◌, ◌*ℤ◌, ◌≤ℤ◌, ◌<ℤ◌, List, [], ◌∷◌, ◌++◌, length, take, drop, set, get_or, inl, inr, arith, ap, sym, ◌∙◌, subst, refl, append_assoc, length-append}
+use Rattle.std.proofs.lemmas.Int.{ints}
 use Rattle.std.proofs.lemmas.Bool.{cases_lt}
 use Rattle.std.proofs.lemmas.List.{set_split, length-take-le, take_more, take-append-drop}
 use Rattle.std.proofs.Math.Seq.{drop-length, take-length}
 use Rattle.std.specs.List.{AllByRecursion}
 use Rattle.fp_rows.specs.declared.RowCell.{RowCell}
-use Rattle.fp_rows.specs.Rows.{IsConvex}
 use Rattle.fp_rows.specs.Squares.{IsCell, width_of, squared_cost, squared_rise, total_weight}
 use Rattle.fp_rows.specs.SquaresLaws.{squares_are_convex}
 use Rattle.fp_rows.specs.Duality.{rise-from}
@@ -14,8 +13,8 @@ use Rattle.fp_rows.specs.Products.{mul-add, add-mul, mul-neg, mul-assoc, mul_com
 use Rattle.fp_rows.specs.Weights.{weight_low}
 use Rattle.fp_rows.specs.Lists.{drop-at, drop-all}
 use Rattle.fp_abacus.specs.declared.stack.Cluster.{Cluster}
-use Rattle.fp_abacus.specs.Clusters.{total, rises, span, IsRunAt, Grows}
-use Rattle.fp_abacus.specs.Stacks.{slope, IsLevel, IsMoment, IsCluster, IsFront, IsUnder, AreClusters, AreClustersBehind, IsMade}
+use Rattle.fp_abacus.specs.Clusters.{total, rises, span, Grows}
+use Rattle.fp_abacus.specs.Stacks.{slope, IsMoment, IsCluster, IsFront, IsUnder, AreClusters, AreClustersBehind, IsMade}
 use Rattle.fp_abacus.proofs.Joins.{both_total, joined}
 use Rattle.fp_abacus.proofs.Spans.{span_low}
 use Rattle.fp_abacus.proofs.Places.{all_front, all_behind, span-append, drop_at}
@@ -81,12 +80,12 @@ cluster_joined offset run others a b j each light first second apart made =
     let weights = weight-append run others in
     let grow = all_grow (run ++ others) each in
     let rising : (level : ℤ) → total (rises width_of squared_rise (level +ℤ offset) (run ++ others)) ≡ slope (a.weight +ℤ b.weight) (a.moment +ℤ b.moment) level =
-      λ level.
-        let whole = both_total width_of squared_rise offset run others level in
-        let left = first.rising level in
-        let right = second.rising level in
-        let sum = slopes a.weight b.weight a.moment b.moment level in
-        omega (arith, ints) in
+    λ level.
+    let whole = both_total width_of squared_rise offset run others level in
+    let left = first.rising level in
+    let right = second.rising level in
+    let sum = slopes a.weight b.weight a.moment b.moment level in
+    omega (arith, ints) in
     let below = made.least.below in
     let reached = made.least.reached in
     let under = rising (j.level -ℤ pos 1) in
@@ -177,7 +176,7 @@ pub record IsAdding (cells : List RowCell) (i : ℕ) (before : ℤ) (added : Clu
 
 pub added_last : (level : ℤ) (work : List Cluster) (next : ℕ) (d : Cluster) → next ≤ length work → (next < length work → level ≤ℤ (get_or work next d).level) → IsUnder level (drop next work)
 added_last level work next d high under = elim (cases_lt next (length work)) as (λ _. IsUnder level (drop next work)) [
-    inl lt ↦ rw (drop-at work next d lt) (under lt)
+  | inl lt ↦ rw (drop-at work next d lt) (under lt)
   | inr ge ↦ rw (drop-all work work next refl ge high) tt
 ]
 

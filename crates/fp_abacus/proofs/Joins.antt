@@ -1,5 +1,5 @@
 -- Two neighbouring runs, of which the first stands too far to the right, make one run.
-use Rattle.std.proofs.Common.{◌≡◌, ℕ, zero, suc, ◌+◌, ◌<◌, ◌≤◌, ◌⊎◌, inl, inr, ℤ, pos, negsuc, neg_ℤ, ◌+ℤ◌, ◌-ℤ◌, ◌≤ℤ◌, ◌<ℤ◌, List, [], ◌∷◌, ◌++◌, arith, ap, sym, ◌∙◌, subst, refl}
+use Rattle.std.proofs.Common.{◌≡◌, ◌⊎◌, inl, inr, ℤ, pos, ◌+ℤ◌, ◌-ℤ◌, ◌≤ℤ◌, ◌<ℤ◌, List, [], ◌∷◌, ◌++◌, arith, ap, ◌∙◌}
 use Rattle.std.proofs.lemmas.Int.{ints, by_lt_z}
 use Rattle.std.specs.List.{AllByRecursion}
 use Rattle.fp_abacus.specs.Clusters.{total, FirstsAtMostZero, LastsAtLeastZero, rises, IsRunAt, Grows, span}
@@ -58,17 +58,17 @@ between width rise offset run others first second level gr go a b apart below re
     let offset2 = offset +ℤ span width run in
     record {
       at_least = by_lt_z level second
-        (λ lt.
+          (λ lt.
           let left = fewer width rise run offset level (first -ℤ pos 1) gr (omega (arith, ints)) in
           let right = fewer width rise others offset2 level (second -ℤ pos 1) go (omega (arith, ints)) in
           absurd (omega (arith, ints, a.below, b.below)))
-        (λ le. le);
+          (λ le. le);
       at_most = by_lt_z first level
-        (λ lt.
+          (λ lt.
           let left = fewer width rise run offset first (level -ℤ pos 1) gr (omega (arith, ints)) in
           let right = fewer width rise others offset2 second (level -ℤ pos 1) go (omega (arith, ints)) in
           absurd (omega (arith, ints, a.reached, b.reached)))
-        (λ le. le);
+          (λ le. le);
       below = omega (arith, ints);
       reached = omega (arith, ints);
     }
@@ -84,11 +84,11 @@ joined width rise offset run others first second level gr go a b apart below rea
     let before : FirstsAtMostZero (pos 0) rs = lower width rise run offset (level -ℤ pos 1) (first -ℤ pos 1) gr (omega (arith, ints, h.at_most)) a.firsts in
     let behind : LastsAtLeastZero (pos 0) ts = higher width rise others offset2 second level go h.at_least b.lasts in
     let second_part : LastsAtLeastZero (pos 0) ss ⊎ FirstsAtMostZero (pos 0) ss = by_lt_z second level
-      (λ lt. inl (higher width rise others offset2 second (level -ℤ pos 1) go (omega (arith, ints)) b.lasts))
-      (λ le. inr (lower width rise others offset2 (level -ℤ pos 1) (second -ℤ pos 1) go (omega (arith, ints)) b.firsts)) in
+    (λ lt. inl (higher width rise others offset2 second (level -ℤ pos 1) go (omega (arith, ints)) b.lasts))
+    (λ le. inr (lower width rise others offset2 (level -ℤ pos 1) (second -ℤ pos 1) go (omega (arith, ints)) b.firsts)) in
     let first_part : FirstsAtMostZero (pos 0) us ⊎ LastsAtLeastZero (pos 0) us = by_lt_z level first
-      (λ lt. inl (lower width rise run offset level (first -ℤ pos 1) gr (omega (arith, ints)) a.firsts))
-      (λ le. inr (higher width rise run offset first level gr le a.lasts)) in
+    (λ lt. inl (lower width rise run offset level (first -ℤ pos 1) gr (omega (arith, ints)) a.firsts))
+    (λ le. inr (higher width rise run offset first level gr le a.lasts)) in
     record {
       firsts = rw (both width rise offset run others (level -ℤ pos 1)) (joined_firsts rs ss before (omega (arith, ints, h.below)) second_part);
       lasts = rw (both width rise offset run others level) (joined_lasts us ts behind h.reached first_part);

@@ -8,3 +8,4 @@ pub mod Adding
 pub mod Packing
 pub mod Needs
 pub mod Whole
+pub mod Mixed

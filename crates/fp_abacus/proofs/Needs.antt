@@ -1,17 +1,17 @@
 -- The duals, set one after the other.
-use Rattle.std.proofs.Common.{◌≡◌, ℕ, zero, suc, ◌+◌, ◌*◌, ◌^◌, ◌<◌, ◌≤◌, ◌-◌, max, min, ℤ, pos, negsuc, neg_ℤ, ◌+ℤ◌, ◌-ℤ◌, ◌*ℤ◌, ◌≤ℤ◌, ◌<ℤ◌, List, [], ◌∷◌, ◌++◌, length, take, drop, set, get_or, w64, arith, ap, sym, ◌∙◌, subst, refl, append_assoc, length-append}
+use Rattle.std.proofs.Common.{◌≡◌, ℕ, suc, ◌+◌, ◌^◌, ◌<◌, ◌≤◌, ◌-◌, max, ℤ, pos, neg_ℤ, ◌+ℤ◌, ◌-ℤ◌, ◌*ℤ◌, ◌≤ℤ◌, List, [], ◌∷◌, ◌++◌, length, take, drop, set, get_or, w64, arith, ap, sym, ◌∙◌, subst, refl, append_assoc}
 use Rattle.std.proofs.lemmas.Int.{ints}
-use Rattle.std.proofs.lemmas.List.{set_split, length-take-le, take_more_set, length-drop, length-set, drop-set-lt}
+use Rattle.std.proofs.lemmas.List.{set_split, length-take-le, take_more_set, length-set, drop-set-lt}
 use Rattle.std.proofs.lemmas.List.Elements.{recursion_from_All}
 use Rattle.std.proofs.Math.Seq.{drop-length}
 use Rattle.std.specs.List.{AllByRecursion}
 use Rattle.std.specs.Int.{saturate_unsigned}
 use Rattle.fp_rows.specs.declared.RowCell.{RowCell}
-use Rattle.fp_rows.specs.Squares.{IsCell, IsPlace, AreCells, ArePlaces, width_of, squared_rise, total_weight}
+use Rattle.fp_rows.specs.Squares.{IsCell, IsPlace, AreCells, ArePlaces, squared_rise, total_weight}
 use Rattle.fp_rows.specs.Products.{mul-le_by}
-use Rattle.fp_rows.specs.Lists.{drop-at, drop-all}
+use Rattle.fp_rows.specs.Lists.{drop-at}
 use Rattle.fp_rows.specs.Weights.{weight_low, weight_behind, each_behind}
-use Rattle.fp_abacus.specs.Duals.{above, need, needs, first_dual, least_duals}
+use Rattle.fp_abacus.specs.Duals.{above, need, needs, least_duals}
 use Rattle.fp_abacus.proofs.Tight.{above-is}
 use Rattle.fp_abacus.proofs.Places.{drop_at}
 

@@ -1,6 +1,6 @@
 -- The positions of clusters, written one run after the other.
-use Rattle.std.proofs.Common.{◌≡◌, ℕ, zero, suc, ◌+◌, ◌*◌, ◌^◌, ◌<◌, ◌≤◌, ◌-◌, ℤ, pos, negsuc, neg_ℤ, ◌+ℤ◌, ◌-ℤ◌, ◌≤ℤ◌, ◌<ℤ◌, List, [], ◌∷◌, ◌++◌, length, take, drop, set, get_or, arith, ap, sym, ◌∙◌, subst, refl, append_assoc, length-append}
-use Rattle.std.proofs.lemmas.Int.{ints, clamps}
+use Rattle.std.proofs.Common.{◌≡◌, ℕ, ◌+◌, ◌<◌, ◌≤◌, ◌-◌, ℤ, pos, ◌+ℤ◌, ◌≤ℤ◌, List, [], ◌∷◌, ◌++◌, length, take, drop, set, get_or, arith, ap, sym, ◌∙◌, refl, append_assoc, length-append}
+use Rattle.std.proofs.lemmas.Int.{ints}
 use Rattle.std.proofs.lemmas.List.{take_more_set, length-drop, drop-drop, take_at, append-nil}
 use Rattle.std.proofs.Math.Seq.{drop-length, take-length}
 use Rattle.std.specs.List.{AllByRecursion}
@@ -9,9 +9,9 @@ use Rattle.fp_rows.specs.Squares.{IsCell, width_of}
 use Rattle.fp_rows.specs.Lists.{drop-at, drop-all}
 use Rattle.fp_abacus.specs.declared.stack.Cluster.{Cluster}
 use Rattle.fp_abacus.specs.Clusters.{span, packed}
-use Rattle.fp_abacus.specs.Stacks.{IsFront, IsUnder, AreClusters, clamped, places}
+use Rattle.fp_abacus.specs.Stacks.{AreClusters, clamped, places}
 use Rattle.fp_abacus.proofs.Spans.{span_low}
-use Rattle.fp_abacus.proofs.Places.{IsClamped, is_clamped, all_front, all_behind, span-append, drop_at}
+use Rattle.fp_abacus.proofs.Places.{is_clamped, all_front, all_behind, span-append, drop_at}
 
 -- ---- one run
 pub record IsPacking (run : List RowCell) (position : ℤ) (old xs : List ℤ) (start i : ℕ) (end : ℤ) : Type 0 where

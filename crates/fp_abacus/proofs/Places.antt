@@ -1,5 +1,5 @@
 -- The positions that clusters give are tight.
-use Rattle.std.proofs.Common.{◌≡◌, ℕ, zero, suc, ◌+◌, ◌<◌, ◌≤◌, ◌-◌, max, ℤ, pos, negsuc, neg_ℤ, ◌+ℤ◌, ◌-ℤ◌, ◌≤ℤ◌, ◌<ℤ◌, List, [], ◌∷◌, ◌++◌, length, take, drop, arith, ap, sym, ◌∙◌, subst, refl}
+use Rattle.std.proofs.Common.{◌≡◌, ℕ, ◌<◌, max, ℤ, pos, ◌+ℤ◌, ◌-ℤ◌, ◌≤ℤ◌, ◌<ℤ◌, List, [], ◌∷◌, ◌++◌, length, drop, arith, refl}
 use Rattle.std.proofs.lemmas.Int.{ints, clamps, by_lt_z}
 use Rattle.std.proofs.Math.Seq.{drop-append_seam}
 use Rattle.std.proofs.lemmas.List.{take_at}
@@ -7,11 +7,11 @@ use Rattle.std.specs.List.{AllByRecursion}
 use Rattle.fp_rows.specs.declared.RowCell.{RowCell}
 use Rattle.fp_rows.specs.Squares.{width_of, squared_rise}
 use Rattle.fp_abacus.specs.declared.stack.Cluster.{Cluster}
-use Rattle.fp_abacus.specs.Clusters.{total, FirstsAtMostZero, LastsAtLeastZero, rises, packed, Grows, span, IsRunAt}
-use Rattle.fp_abacus.specs.Duals.{above, need, first_dual}
-use Rattle.fp_abacus.specs.Stacks.{IsCluster, IsFront, IsUnder, AreClusters, clamped, places}
+use Rattle.fp_abacus.specs.Clusters.{rises, packed, Grows, span}
+use Rattle.fp_abacus.specs.Duals.{need, first_dual}
+use Rattle.fp_abacus.specs.Stacks.{IsUnder, AreClusters, clamped, places}
 use Rattle.fp_abacus.proofs.Joins.{lower, higher}
-use Rattle.fp_abacus.proofs.Tight.{Tight, above-is, need_before_run, left_over, nothing_left, tight_run}
+use Rattle.fp_abacus.proofs.Tight.{Tight, need_before_run, left_over, nothing_left, tight_run}
 
 -- ---- levels between the ends
 pub record IsClamped (lo top level : ℤ) : Type 0 where
@@ -64,15 +64,15 @@ no_need lo top le (k ∷ ks) offset from cells grows h inside under =
 tight_end : (lo top level hi from : ℤ) (spare : ℕ) → level ≤ℤ top → from ≡ level → hi ≡ top → (level <ℤ top → spare ≡ 0) → (from ≤ℤ hi) × (0 < max spare 0 → from ≡ hi)
 tight_end lo top level hi from spare le here end left =
     by_lt_z level top
-      (λ lt. let none = left lt in (omega (arith, ints), λ some. absurd (omega arith)))
-      (λ ge. (omega (arith, ints), λ some. omega (arith, ints)))
+    (λ lt. let none = left lt in (omega (arith, ints), λ some. absurd (omega arith)))
+    (λ ge. (omega (arith, ints), λ some. omega (arith, ints)))
 
 -- the first cell of a run touches what is before it, or no dual is needed there
 tight_gap : (lo top level next from at : ℤ) (spare needed : ℕ) → lo ≤ℤ level → next ≤ℤ top → level ≤ℤ next → from ≡ level +ℤ at → (level <ℤ top → spare ≡ 0) → (lo <ℤ next → needed ≡ 0) → 0 < max spare needed → from ≡ next +ℤ at
 tight_gap lo top level next from at spare needed low high rising here left none some =
     by_lt_z level next
-      (λ lt. let a = left (omega (arith, ints)) in let b = none (omega (arith, ints)) in absurd (omega arith))
-      (λ ge. omega (arith, ints))
+    (λ lt. let a = left (omega (arith, ints)) in let b = none (omega (arith, ints)) in absurd (omega arith))
+    (λ ge. omega (arith, ints))
 
 -- the first cell apart from the others of its run
 tight_first : {Cell : Type 0} (width : Cell → ℤ) (rise : Cell → ℤ → ℤ) (run others : List Cell) (xs : List ℤ) (from x to : ℤ) (spare : ℕ) → 0 < length run → from ≤ℤ x → (0 < first_dual rise spare (run ++ others) (packed width x run ++ xs) → from ≡ x) → Tight width rise x to spare (run ++ others) (packed width x run ++ xs) → Tight width rise from to spare (run ++ others) (packed width x run ++ xs)
@@ -112,14 +112,14 @@ tight_from lo top le (k ∷ ks) offset level from hi cells spare grows h low hig
     let finish : hi ≡ (top +ℤ offset) +ℤ span width_of (run ++ rest) = rw cut at end in
     let spare2 = left_over spare (rises width_of squared_rise (at +ℤ offset) run) in
     let nothing : at <ℤ top → spare2 ≡ 0 =
-      λ lt.
-        let free = left (omega (arith, ints)) in
-        let lasts = higher width_of squared_rise run offset k.level at steep_run (between.not_lowered lt) h.0.front.best.lasts in
-        rw free (nothing_left (rises width_of squared_rise (at +ℤ offset) run) lasts) in
+    λ lt.
+    let free = left (omega (arith, ints)) in
+    let lasts = higher width_of squared_rise run offset k.level at steep_run (between.not_lowered lt) h.0.front.best.lasts in
+    rw free (nothing_left (rises width_of squared_rise (at +ℤ offset) run) lasts) in
     let behind = tight_from lo top le ks (offset +ℤ span width_of run) at ((at +ℤ offset) +ℤ span width_of run) hi rest spare2 (all_behind (Grows squared_rise) run rest steep) h.0.behind between.low between.high (next_under lo top k.level ks h.1) (omega (arith, ints)) (omega (arith, ints)) nothing in
     let packed_run = tight_run width_of squared_rise run rest xs (at +ℤ offset) ((at +ℤ offset) +ℤ span width_of run) hi spare refl behind in
     let none : lo <ℤ at → need squared_rise (run ++ rest) (packed width_of (at +ℤ offset) run ++ xs) ≡ 0 =
-      λ lt. (let whole = no_need lo top le (k ∷ ks) offset k.level cells grows h lt (omega (arith, ints)) in rw (cut, take_at run rest k.cells count, drop_at run rest k.cells count) at whole) in
+    λ lt. (let whole = no_need lo top le (k ∷ ks) offset k.level cells grows h lt (omega (arith, ints)) in rw (cut, take_at run rest k.cells count, drop_at run rest k.cells count) at whole) in
     let touching = tight_gap lo top level at from offset spare (need squared_rise (run ++ rest) (packed width_of (at +ℤ offset) run ++ xs)) low between.high rising here left none in
     rw (cut, take_at run rest k.cells count, drop_at run rest k.cells count) (tight_first width_of squared_rise run rest xs from (at +ℤ offset) hi spare (omega arith) (omega (arith, ints)) touching packed_run)
 

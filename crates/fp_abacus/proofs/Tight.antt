@@ -1,10 +1,10 @@
 -- Positions that the least duals show to be the best.
-use Rattle.std.proofs.Common.{◌≡◌, ℕ, zero, suc, ◌+◌, ◌<◌, ◌≤◌, ◌-◌, max, ℤ, pos, negsuc, neg_ℤ, ◌+ℤ◌, ◌-ℤ◌, ◌≤ℤ◌, ◌<ℤ◌, List, [], ◌∷◌, ◌++◌, arith, ap, sym, ◌∙◌, subst, refl}
-use Rattle.std.proofs.lemmas.Int.{ints, by_lt_z}
+use Rattle.std.proofs.Common.{◌≡◌, ℕ, ◌<◌, ◌≤◌, ◌-◌, max, ℤ, pos, negsuc, ◌+ℤ◌, ◌-ℤ◌, ◌≤ℤ◌, List, [], ◌∷◌, ◌++◌, arith, ap, refl}
+use Rattle.std.proofs.lemmas.Int.{ints}
 use Rattle.std.specs.List.{AllByRecursion}
-use Rattle.fp_rows.specs.Rows.{FeasibleBy, ShownBy, FallsBy, AreDualsBy}
+use Rattle.fp_rows.specs.Rows.{FeasibleBy, ShownBy, AreDualsBy}
 use Rattle.fp_abacus.specs.Clusters.{total, FirstsAtMostZero, LastsAtLeastZero, rises, packed, Grows, span}
-use Rattle.fp_abacus.specs.Duals.{above, need, needs, first_dual, least_duals}
+use Rattle.fp_abacus.specs.Duals.{above, need, first_dual, least_duals}
 use Rattle.fp_abacus.proofs.Sums.{lasts_total}
 use borrow.Author.Differences.{up, down}
 

@@ -1,5 +1,5 @@
 -- A row that is placed by its clusters.
-use Rattle.std.proofs.Common.{◌≡◌, ℕ, zero, suc, ◌+◌, ◌^◌, ◌<◌, ◌≤◌, ℤ, pos, ◌+ℤ◌, ◌-ℤ◌, ◌*ℤ◌, ◌≤ℤ◌, FitsSigned, w64, List, [], ◌∷◌, length, take, drop, ◌-◌, All, arith, refl}
+use Rattle.std.proofs.Common.{◌≡◌, ℕ, ◌^◌, ◌≤◌, ℤ, pos, ◌+ℤ◌, ◌-ℤ◌, ◌≤ℤ◌, List, [], ◌∷◌, length, take, drop, ◌-◌, All, arith, refl}
 use Rattle.std.proofs.lemmas.Int.{ints}
 use Rattle.std.proofs.lemmas.List.Elements.{recursion_from_All, All-from_recursion}
 use Rattle.std.proofs.lemmas.List.{length-drop}
@@ -7,7 +7,7 @@ use Rattle.std.proofs.Math.Seq.{take-length}
 use Rattle.std.specs.List.{AllByRecursion}
 use Rattle.fp_rows.specs.declared.RowCell.{RowCell}
 use Rattle.fp_rows.specs.Rows.{FeasibleBy}
-use Rattle.fp_rows.specs.Squares.{IsCell, IsPlace, AreCells, ArePlaces, IsRow, Feasible, AreDuals, width_of, squared_rise, total_width, total_weight}
+use Rattle.fp_rows.specs.Squares.{IsCell, IsPlace, AreCells, ArePlaces, IsRow, Feasible, AreDuals, width_of, squared_rise, total_width}
 use Rattle.fp_abacus.specs.declared.stack.Cluster.{Cluster}
 use Rattle.fp_abacus.specs.Clusters.{span}
 use Rattle.fp_abacus.specs.Duals.{least_duals}

@@ -1,5 +1,5 @@
 -- Runs of cells that touch, by what their costs rise by. Nothing here knows what kind of cell it is.
-use Rattle.std.specs.Prelude.{ℕ, ℤ, pos, ◌+ℤ◌, ◌-ℤ◌, ◌≤ℤ◌, ◌<ℤ◌, List, [], ◌∷◌}
+use Rattle.std.specs.Prelude.{ℤ, pos, ◌+ℤ◌, ◌-ℤ◌, ◌≤ℤ◌, ◌<ℤ◌, List, [], ◌∷◌}
 
 -- what a cost rises by does not fall with the position
 abbrev pub Grows : {Cell : Type 0} → (Cell → ℤ → ℤ) → Cell → Type 0

@@ -13,7 +13,6 @@ mod placing;
 mod stack;
 
 use fp_rows::RowCell;
-
 pub use stack::Cluster;
 
 /// Places the cells of a row where they cost the least, and gives duals that show it.
@@ -44,3 +43,6 @@ pub fn place_row(
     duals::set_needs(cells, xs, duals);
     duals::raise_to_least(cells, xs, duals);
 }
+
+#[cfg(test)]
+mod tests;

@@ -84,21 +84,15 @@ pub fn width_of_all(cells: &[RowCell]) -> i64
     ensures { result ≡ span width_of cells.now }
 {
     let mut width = 0;
-    for i in 0..cells.len() {
-        width += cells[i].width;
+    for cell in cells {
+        width += cell.width;
     }
     width
 }
 
 /// Puts the cell at `i` in front of the clusters from `first` on, as one with those that it would overlap, and gives where the
 /// clusters begin now.
-fn add_cell(
-    cells: &[RowCell],
-    i: usize,
-    before: i64,
-    work: &mut [Cluster],
-    first: usize,
-) -> usize
+fn add_cell(cells: &[RowCell], i: usize, before: i64, work: &mut [Cluster], first: usize) -> usize
     requires cells { AreCells cells.now }
     requires work { length work.old ≡ length cells.now }
     requires behind { i < first }

@@ -1,11 +1,10 @@
 -- The running cost of a row.
-use Rattle.std.proofs.Common.{◌≡◌, ℕ, zero, suc, ◌+◌, ◌^◌, ◌<◌, ℤ, pos, ◌+ℤ◌, ◌*ℤ◌, ◌≤ℤ◌, List, [], ◌∷◌, length, drop, get_or, FitsSigned, arith, add-one, drop-cons}
+use Rattle.std.proofs.Common.{◌≡◌, ℕ, ◌+◌, ◌^◌, ◌<◌, ℤ, pos, ◌+ℤ◌, ◌*ℤ◌, ◌≤ℤ◌, List, ◌∷◌, length, drop, get_or, FitsSigned, arith}
 use Rattle.std.specs.List.{AllByRecursion}
 use Rattle.std.proofs.lemmas.Int.{ints}
-use Rattle.std.proofs.lemmas.List.Elements.{recursion_from_All}
 use mir.Syntax.{w128}
 use Rattle.fp_rows.specs.declared.RowCell.{RowCell}
-use Rattle.fp_rows.specs.Squares.{IsCell, AreCells, IsPlace, total_cost, total_weight, squared_cost}
+use Rattle.fp_rows.specs.Squares.{IsCell, IsPlace, total_cost, total_weight, squared_cost}
 use Rattle.fp_rows.specs.Lists.{drop-at}
 use Rattle.fp_rows.specs.Weights.{weight_low}
 use Rattle.fp_rows.specs.Ranges.{cost_range}

@@ -1,10 +1,9 @@
-use Rattle.std.proofs.Common.{◌≡◌, ◌<◌, ◌+◌, ◌-◌, ◌∙◌, ap, pos, max, ◌+ℤ◌, ◌-ℤ◌, ◌≤ℤ◌, FitsSigned, w64, length, get_or, arith, rules}
+use Rattle.std.proofs.Common.{◌≡◌, ◌∙◌, ap, pos, ◌+ℤ◌, ◌-ℤ◌, FitsSigned, w64, get_or, arith, rules}
 use Rattle.std.proofs.lemmas.Int.{ints, to_z-of_z}
 use Rattle.std.specs.Int.{saturate_unsigned}
 use Rattle.fp_rows.specs.declared.RowCell.{RowCell}
 use Rattle.fp_rows.specs.Squares.{squared_rise}
 use Rattle.fp_rows.specs.Weights.{weight_at}
-use Rattle.fp_abacus.specs.Duals.{above}
 use Rattle.fp_abacus.proofs.Needs.{rise_range, one_raised, raising_end, saturated}
 use Rattle.fp_abacus.proofs.duals.raise_to_least.Goals as goal
 use Rattle.fp_abacus.proofs.duals.raise_to_least.Goals.{After-rise_at}

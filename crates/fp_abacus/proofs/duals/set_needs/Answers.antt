@@ -1,9 +1,8 @@
-use Rattle.std.proofs.Common.{◌≡◌, ◌<◌, ◌+◌, ◌-◌, ◌∙◌, pos, ◌+ℤ◌, ◌-ℤ◌, ◌≤ℤ◌, FitsSigned, w64, length, get_or, arith, rules}
+use Rattle.std.proofs.Common.{◌+◌, ◌-◌, ◌∙◌, pos, ◌+ℤ◌, ◌-ℤ◌, FitsSigned, w64, get_or, arith, rules}
 use Rattle.std.proofs.lemmas.Int.{ints, to_z-of_z}
 use Rattle.fp_rows.specs.declared.RowCell.{RowCell}
 use Rattle.fp_rows.specs.Squares.{squared_rise}
 use Rattle.fp_rows.specs.Weights.{weight_at}
-use Rattle.fp_abacus.specs.Duals.{above}
 use Rattle.fp_abacus.proofs.Needs.{one_needed, saturated}
 use Rattle.fp_abacus.proofs.duals.set_needs.Goals as goal
 

@@ -1,6 +1,5 @@
-use Rattle.std.proofs.Common.{◌≡◌, ◌<◌, ◌+◌, pos, ◌+ℤ◌, ◌≤ℤ◌, FitsSigned, w64, to_z, length, get_or, set, arith, rules}
+use Rattle.std.proofs.Common.{◌<◌, ◌+◌, pos, ◌+ℤ◌, FitsSigned, w64, to_z, length, get_or, set, arith, rules}
 use Rattle.std.proofs.lemmas.Int.{ints, to_z-of_z}
-use Rattle.std.specs.List.{AllByRecursion}
 use Rattle.std.proofs.lemmas.List.Elements.{All-from_recursion}
 use Rattle.fp_rows.specs.declared.RowCell.{RowCell}
 use Rattle.fp_rows.specs.Squares.{IsCell}

@@ -1,4 +1,4 @@
-use Rattle.std.proofs.Common.{◌≡◌, ◌<◌, ◌+◌, ◌^◌, ◌∷◌, pos, ◌+ℤ◌, ◌-ℤ◌, ◌*ℤ◌, ◌≤ℤ◌, ◌<ℤ◌, FitsSigned, w64, length, drop, get_or, arith, rules}
+use Rattle.std.proofs.Common.{◌<◌, ◌+◌, ◌^◌, ◌∷◌, pos, ◌-ℤ◌, ◌≤ℤ◌, ◌<ℤ◌, FitsSigned, w64, length, drop, get_or, arith, rules}
 use Rattle.std.proofs.lemmas.Int.{ints, to_z-of_z}
 use Rattle.std.proofs.lemmas.List.{length-drop}
 use Rattle.std.proofs.lemmas.List.Elements.{recursion_from_All}
@@ -77,7 +77,7 @@ returns-clause-clusters c =
     let at = simp to_z-of_z at c.loop-next.invariant.front in
     let cut = set_front c.args.work.now c.loop-next.next c.loop-next.added (omega (arith, c.loop-next.invariant.low)) c.loop-next.invariant.high in
     let last : IsUnder c.loop-next.added.level (drop c.loop-next.next c.args.work.now) = elim c.loop-next-test.branch [
-      then-loop-next-test+else-work-next w ↦ added_last c.loop-next.added.level c.args.work.now c.loop-next.next no_cluster c.loop-next.invariant.high (λ lt. omega (arith, ints))
-    | else-loop-next-test w ↦ added_last c.loop-next.added.level c.args.work.now c.loop-next.next no_cluster c.loop-next.invariant.high (λ lt. absurd (omega arith))
+      | then-loop-next-test+else-work-next w ↦ added_last c.loop-next.added.level c.args.work.now c.loop-next.next no_cluster c.loop-next.invariant.high (λ lt. omega (arith, ints))
+      | else-loop-next-test w ↦ added_last c.loop-next.added.level c.args.work.now c.loop-next.next no_cluster c.loop-next.invariant.high (λ lt. absurd (omega arith))
     ] in
     rw cut (at, last)

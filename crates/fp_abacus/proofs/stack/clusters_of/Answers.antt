@@ -1,4 +1,4 @@
-use Rattle.std.proofs.Common.{◌≡◌, ◌<◌, ◌+◌, ◌-◌, pos, ◌+ℤ◌, ◌-ℤ◌, ◌≤ℤ◌, FitsSigned, w64, to_z, length, drop, get_or, arith, rules}
+use Rattle.std.proofs.Common.{◌<◌, ◌-◌, pos, ◌-ℤ◌, FitsSigned, w64, to_z, get_or, arith}
 use Rattle.std.proofs.lemmas.Int.{ints, to_z-of_z}
 use Rattle.std.proofs.lemmas.List.Elements.{recursion_from_All}
 use Rattle.fp_rows.specs.declared.RowCell.{RowCell}

@@ -1,4 +1,4 @@
-use Rattle.std.proofs.Common.{pos, ◌+ℤ◌, ◌-ℤ◌, ◌*ℤ◌, FitsSigned, w64, arith, rules}
+use Rattle.std.proofs.Common.{pos, ◌-ℤ◌, ◌*ℤ◌, FitsSigned, w64, arith, rules}
 use Rattle.std.proofs.lemmas.Int.{ints, to_z-of_z}
 use Rattle.fp_abacus.proofs.Levels.{level_is_least, level_fits}
 use Rattle.fp_abacus.proofs.stack.least_level.Goals as goal

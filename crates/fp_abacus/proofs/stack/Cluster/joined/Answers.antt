@@ -1,4 +1,4 @@
-use Rattle.std.proofs.Common.{pos, ◌+ℤ◌, ◌-ℤ◌, ◌*ℤ◌, FitsSigned, w64, arith, rules}
+use Rattle.std.proofs.Common.{◌+ℤ◌, FitsSigned, w64, arith}
 use Rattle.std.proofs.lemmas.Int.{ints, to_z-of_z}
 use Rattle.fp_abacus.specs.Stacks.{IsMoment}
 use Rattle.fp_abacus.proofs.stack.Cluster.joined.Goals as goal
