@@ -1,6 +1,6 @@
 //! Positions from clusters.
 
-ghost use Rattle.std.specs.Prelude.{◌≡◌, ◌+◌, ◌^◌, ◌<◌, ◌≤◌, ◌++◌, ◌-ℤ◌, ◌+ℤ◌, ◌≤ℤ◌, pos, length, take};
+ghost use Rattle.std.specs.Prelude.{◌≡◌, ◌+◌, ◌^◌, ◌≤◌, ◌++◌, ◌+ℤ◌, ◌≤ℤ◌, pos, length, take};
 ghost use Rattle.std.specs.List.{AllByRecursion};
 ghost use Rattle.fp_rows.specs.Squares.{AreCells, IsCell, width_of};
 ghost use Rattle.fp_abacus.specs.Clusters.{span, packed};
