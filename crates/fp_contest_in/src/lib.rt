@@ -7,3 +7,6 @@ mod sections;
 mod techs;
 
 pub use reading::read_problem;
+
+#[cfg(test)]
+mod tests;
