@@ -19,7 +19,8 @@ pub use stack::Cluster;
 ///
 /// `lo` and `hi` are the row's ends, from 0 to 2^31, with room for the cells between them. `work` is scratch, of one entry for each
 /// cell; what it holds before and after does not matter. Afterwards `xs` has the position of each cell, and `duals` has one dual
-/// before the first cell and one behind each, none above 2^57. It takes time in the number of cells, and no memory.
+/// before the first cell and one behind each, none above 2^57. It takes time linear in the number of cells, takes no memory and
+/// refuses nothing.
 pub fn place_row(
     cells: &[RowCell],
     lo: i64,
