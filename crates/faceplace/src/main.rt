@@ -8,12 +8,10 @@ mod request;
 mod run;
 mod status;
 
-pub use run::run;
-
 use fp_base::{DirFolder, StdoutSink};
-use std::env;
-use std::io;
+pub use run::run;
 use std::process::ExitCode;
+use std::{env, io};
 
 /// The status where the runtime cannot give the words.
 const NO_WORDS: u8 = 7;

@@ -3,7 +3,6 @@
 use crate::run;
 use fp_base::{MemFolder, MemSink};
 use std::alloc::{AllocError, Global};
-use std::process::Abort;
 use std::test::Fail;
 
 /// An input without instances and nets, line by line.
@@ -53,32 +52,56 @@ fn words_of(alloc: Global, line: &str) -> Result<Vec<String>, AllocError> {
     Ok(words)
 }
 
-/// The status, the report and the output file of `seed a o`, with `a` holding these bytes.
-fn seeded(
-    rt: &impl Abort,
+/// How a run ended: the status, and the sink and the folder afterwards.
+#[derive(Drop)]
+struct Ended {
+    status: u8,
+    out: MemSink,
+    folder: MemFolder,
+}
+
+/// A run of these words over a folder whose `a` holds the input, if any, and whose calls of these numbers fail.
+fn ended(
     alloc: Global,
-    input: &[u8],
-) -> Result<(u8, MemSink, MemFolder), Fail> {
-    let mut folder = MemFolder::new(alloc, &[], 2, 1024)?;
-    let mut out = MemSink::new(alloc, &[], 1024)?;
-    assert!(rt; folder.put_file("a", input));
-    let words = words_of(alloc, "seed a o")?;
+    words: &str,
+    input: Option<&str>,
+    folder_fails: &[u64],
+    sink_fails: &[u64],
+) -> Result<Ended, Fail> {
+    let mut folder = MemFolder::new(alloc, folder_fails, 2, 1024)?;
+    let mut out = MemSink::new(alloc, sink_fails, 64)?;
+    if let Some(bytes) = input {
+        let _ = folder.put_file("a", bytes.as_bytes());
+    }
+    let words = words_of(alloc, words)?;
     let status = run(alloc, words.as_slice(), &mut folder, &mut out);
-    Ok((status, out, folder))
+    Ok(Ended {
+        status,
+        out,
+        folder,
+    })
 }
 
 #[test]
 fn seeds_inputs_without_cells(rt: HostRuntime) -> Result<(), Fail> {
     for (line, text, report) in [
         (NONE, "", "seed 0 first top cut 0 slots 36\n"),
-        (7, "DieSize 0 0 4096 4096", "seed 0 first top cut 0 slots 466489\n"),
-        (14, "TerminalSize\t10 10\r", "seed 0 first top cut 0 slots 1\n"),
+        (
+            7,
+            "DieSize 0 0 4096 4096",
+            "seed 0 first top cut 0 slots 466489\n",
+        ),
+        (
+            14,
+            "TerminalSize\t10 10\r",
+            "seed 0 first top cut 0 slots 1\n",
+        ),
     ] {
         let input = with_line(rt.alloc(), line, text)?;
-        let (status, out, folder) = seeded(&rt, rt.alloc(), input.as_bytes())?;
-        assert_eq!(rt; status, 0, "{text}");
-        assert_eq!(rt; out.written(), report.as_bytes(), "{text}");
-        assert!(rt; folder.file("o") == Some(PLACED.as_bytes()), "{text}");
+        let end = ended(rt.alloc(), "seed a o", Some(input.as_str()), &[], &[])?;
+        assert_eq!(rt; end.status, 0, "{text}");
+        assert_eq!(rt; end.out.written(), report.as_bytes(), "{text}");
+        assert!(rt; end.folder.file("o") == Some(PLACED.as_bytes()), "{text}");
     }
     Ok(())
 }
@@ -103,53 +126,48 @@ fn reports_the_first_fault(rt: HostRuntime) -> Result<(), Fail> {
         (16, "NumInstances 1", "input a 281 limit\n"),
     ] {
         let input = with_line(rt.alloc(), line, text)?;
-        let (status, out, folder) = seeded(&rt, rt.alloc(), input.as_bytes())?;
-        assert_eq!(rt; status, 3, "{text}");
-        assert_eq!(rt; out.written(), report.as_bytes(), "{text}");
-        assert!(rt; folder.file("o").is_none(), "{text}");
+        let end = ended(rt.alloc(), "seed a o", Some(input.as_str()), &[], &[])?;
+        assert_eq!(rt; end.status, 3, "{text}");
+        assert_eq!(rt; end.out.written(), report.as_bytes(), "{text}");
+        assert!(rt; end.folder.file("o").is_none(), "{text}");
     }
     Ok(())
 }
 
 #[test]
 fn other_words_are_no_request(rt: HostRuntime) -> Result<(), Fail> {
-    for line in ["", "seed a", "seed a a", "place a o c", "seed a o c"] {
-        let alloc = rt.alloc();
-        let mut folder = MemFolder::new(alloc, &[], 1, 16)?;
-        let mut out = MemSink::new(alloc, &[], 64)?;
-        let words = words_of(alloc, line)?;
-        assert_eq!(rt; run(alloc, words.as_slice(), &mut folder, &mut out), 2, "{line}");
-        assert_eq!(rt; out.written(), b"words\n".as_slice(), "{line}");
-        assert_eq!(rt; folder.calls(), 0, "{line}");
+    for words in ["", "seed a", "seed a a", "place a o c", "seed a o c"] {
+        let end = ended(rt.alloc(), words, None, &[], &[])?;
+        assert_eq!(rt; end.status, 2, "{words}");
+        assert_eq!(rt; end.out.written(), b"words\n".as_slice(), "{words}");
+        assert_eq!(rt; end.folder.calls(), 0, "{words}");
     }
     Ok(())
 }
 
 #[test]
-fn failing_devices_end_with_their_status(rt: HostRuntime) -> Result<(), Fail> {
-    let alloc = rt.alloc();
-    let input = with_line(alloc, NONE, "")?;
-    let words = words_of(alloc, "seed a o")?;
+fn a_missing_file_is_told_and_none_is_made(rt: HostRuntime) -> Result<(), Fail> {
+    let end = ended(rt.alloc(), "seed a o", None, &[], &[])?;
+    assert_eq!(rt; end.status, 3);
+    assert_eq!(rt; end.out.written(), b"input a 0 missing\n".as_slice());
+    assert!(rt; end.folder.file("o").is_none());
+    Ok(())
+}
 
-    // No file of that name, and none is made.
-    let mut folder = MemFolder::new(alloc, &[], 2, 1024)?;
-    let mut out = MemSink::new(alloc, &[], 64)?;
-    assert_eq!(rt; run(alloc, words.as_slice(), &mut folder, &mut out), 3);
-    assert_eq!(rt; out.written(), b"input a 0 missing\n".as_slice());
-    assert!(rt; folder.file("o").is_none());
+#[test]
+fn a_folder_that_fails_at_once_prints_nothing(rt: HostRuntime) -> Result<(), Fail> {
+    let input = with_line(rt.alloc(), NONE, "")?;
+    let end = ended(rt.alloc(), "seed a o", Some(input.as_str()), &[0], &[])?;
+    assert_eq!(rt; end.status, 6);
+    assert_eq!(rt; end.out.calls(), 0);
+    Ok(())
+}
 
-    // The first call of the folder fails: nothing is printed.
-    let mut folder = MemFolder::new(alloc, &[0], 2, 1024)?;
-    let mut out = MemSink::new(alloc, &[], 64)?;
-    assert!(rt; folder.put_file("a", input.as_bytes()));
-    assert_eq!(rt; run(alloc, words.as_slice(), &mut folder, &mut out), 6);
-    assert_eq!(rt; out.calls(), 0);
-
-    // The first put of the sink fails: the output file is whole.
-    let mut folder = MemFolder::new(alloc, &[], 2, 1024)?;
-    let mut out = MemSink::new(alloc, &[0], 64)?;
-    assert!(rt; folder.put_file("a", input.as_bytes()));
-    assert_eq!(rt; run(alloc, words.as_slice(), &mut folder, &mut out), 6);
-    assert!(rt; folder.file("o") == Some(PLACED.as_bytes()));
+#[test]
+fn a_sink_that_fails_leaves_the_output_whole(rt: HostRuntime) -> Result<(), Fail> {
+    let input = with_line(rt.alloc(), NONE, "")?;
+    let end = ended(rt.alloc(), "seed a o", Some(input.as_str()), &[], &[0])?;
+    assert_eq!(rt; end.status, 6);
+    assert!(rt; end.folder.file("o") == Some(PLACED.as_bytes()));
     Ok(())
 }

@@ -66,9 +66,11 @@ front_done (Err (Wrong at kind)) old book found l mid after empty techs read giv
 front_done (Ok plan) old book found l mid after empty techs read gives =
     let names = names_read book techs.0 (techs.2 ∙ ap (λ b. with_tech_texts b techs.0) empty) in
     let sections : sections_next (tech_name_list techs.0) 9 none_found mid ≡ Ok (found, after) = ap (λ (ns : List (List ℕ)). sections_next ns 9 none_found mid) (sym names) ∙ read in
-    let setup = gives after in
-    (record { techs = techs.0; setup = setup_of found }, rw (techs.1, sections, setup.0) refl,
-     setup.1 ∙ ap (λ (b : Book). plan_with b (setup_of found)) (techs.2 ∙ ap (λ b. with_tech_texts b techs.0) empty))
+    let setup = gives after in (
+      record { techs = techs.0; setup = setup_of found },
+      rw (techs.1, sections, setup.0) refl,
+      setup.1 ∙ ap (λ (b : Book). plan_with b (setup_of found)) (techs.2 ∙ ap (λ b. with_tech_texts b techs.0) empty),
+    )
 
 -- ---- the whole file
 

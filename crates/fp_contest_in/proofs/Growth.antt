@@ -83,7 +83,6 @@ some_is a b e = cc
 none_some : (a : ℕ) → no_place ≡ Some a → ⊥
 none_some a e = absurd cc
 
-
 mapped_is_some : {A B : Type 0} (change : A → B) (o : Option A) → is_some (option_map change o) ≡ is_some o
 mapped_is_some change None = refl
 mapped_is_some change (Some x) = refl
@@ -133,34 +132,37 @@ has_name-with_lib book t name width height other below = by (place_of other book
   where
     at : (j : ℕ) → is_some (lib_in (with_lib book t name width height) t j) ≡ cond (nat_eq (id_for book name) j) true (has book t j)
     at j = has-with_lib_at book t name width height j below
+
     -- the number of the new library cell is k exactly where the names are one
     both : (k : ℕ) → (name ≡ other → id_for book name ≡ k) → (id_for book name ≡ k → name ≡ other) → nat_eq (id_for book name) k ≡ bytes_eq name other
     both k there back = elim (cases_Bool (bytes_eq name other)) [
       | inl same_name ↦ eq-eqb (id_for book name) k (there ((bytes_eq-Decides name other).0 same_name)) ∙ sym same_name
       | inr other_name ↦ ne_eqb (id_for book name) k (λ e. both_ways (bytes_eq name other) other_name ((bytes_eq-Decides name other).1 (back e))) ∙ sym other_name
     ]
+
     last : (b : Bool) → has (with_lib book t name width height) t (length book.names) ≡ true
-      → is_some (option_and_then (λ j. lib_in (with_lib book t name width height) t j) (cond b (Some (length book.names)) None)) ≡ cond b true false
+        → is_some (option_and_then (λ j. lib_in (with_lib book t name width height) t j) (cond b (Some (length book.names)) None)) ≡ cond b true false
     last true new = new
     last false new = refl
+
     by : (o : Option ℕ) → place_of other book.names ≡ o → (p : Option ℕ) → place_of name book.names ≡ p
-      → is_some (option_and_then (λ j. lib_in (with_lib book t name width height) t j) (place_of other (with_name book.names name)))
+        → is_some (option_and_then (λ j. lib_in (with_lib book t name width height) t j) (place_of other (with_name book.names name)))
         ≡ cond (bytes_eq name other) true (is_some (option_and_then (λ j. lib_in book t j) (place_of other book.names)))
     by (Some k) is (Some p) there =
         let id : id_for book name ≡ p = ap (λ (o : Option ℕ). unwrap_or o (length book.names)) there in
         let test = both k
-          (λ same. id ∙ some_is p k (sym there ∙ ap (λ (n : List ℕ). place_of n book.names) same ∙ is))
-          (λ e. place_same name other book.names k (there ∙ ap Some (sym id ∙ e)) is) in
+        (λ same. id ∙ some_is p k (sym there ∙ ap (λ (n : List ℕ). place_of n book.names) same ∙ is))
+        (λ e. place_same name other book.names k (there ∙ ap Some (sym id ∙ e)) is) in
         let found : place_of other (with_name book.names name) ≡ Some k = ap (λ (o : Option ℕ). place_of other (cond (is_some o) book.names (book.names ++ name ∷ []))) there ∙ is in
         ap (found_at (with_lib book t name width height) t) found ∙ at k ∙ ap (λ (b : Bool). cond b true (has book t k)) test ∙ sym (ap (λ (o : Option ℕ). cond (bytes_eq name other) true (found_at book t o)) is)
     by (Some k) is None there =
         let id : id_for book name ≡ length book.names = ap (λ (o : Option ℕ). unwrap_or o (length book.names)) there in
         let small : k < length book.names = place_within other book.names k is in
         let test = both k
-          (λ same. absurd (none_some k (sym there ∙ ap (λ (n : List ℕ). place_of n book.names) same ∙ is)))
-          (λ e. absurd (omega (arith, id, e))) in
+        (λ same. absurd (none_some k (sym there ∙ ap (λ (n : List ℕ). place_of n book.names) same ∙ is)))
+        (λ e. absurd (omega (arith, id, e))) in
         let found : place_of other (with_name book.names name) ≡ Some k =
-          ap (λ (o : Option ℕ). place_of other (cond (is_some o) book.names (book.names ++ name ∷ []))) there ∙ place_stays other book.names (name ∷ []) k is in
+        ap (λ (o : Option ℕ). place_of other (cond (is_some o) book.names (book.names ++ name ∷ []))) there ∙ place_stays other book.names (name ∷ []) k is in
         ap (found_at (with_lib book t name width height) t) found ∙ at k ∙ ap (λ (b : Bool). cond b true (has book t k)) test ∙ sym (ap (λ (o : Option ℕ). cond (bytes_eq name other) true (found_at book t o)) is)
     by None is (Some p) there =
         let no : bytes_eq name other ≡ false = elim (cases_Bool (bytes_eq name other)) [
@@ -172,9 +174,9 @@ has_name-with_lib book t name width height other below = by (place_of other book
     by None is None there =
         let id : id_for book name ≡ length book.names = ap (λ (o : Option ℕ). unwrap_or o (length book.names)) there in
         let new : has (with_lib book t name width height) t (length book.names) ≡ true =
-          at (length book.names) ∙ ap (λ (b : Bool). cond b true (has book t (length book.names))) (eq-eqb (id_for book name) (length book.names) id) in
+        at (length book.names) ∙ ap (λ (b : Bool). cond b true (has book t (length book.names))) (eq-eqb (id_for book name) (length book.names) id) in
         let found : place_of other (with_name book.names name) ≡ cond (bytes_eq name other) (Some (length book.names)) None =
-          ap (λ (o : Option ℕ). place_of other (cond (is_some o) book.names (book.names ++ name ∷ []))) there ∙ place-push other name book.names is in
+        ap (λ (o : Option ℕ). place_of other (cond (is_some o) book.names (book.names ++ name ∷ []))) there ∙ place-push other name book.names is in
         ap (found_at (with_lib book t name width height) t) found ∙ last (bytes_eq name other) new ∙ sym (ap (λ (o : Option ℕ). cond (bytes_eq name other) true (found_at book t o)) is)
 
 -- ---- the names of a technology's library cells
@@ -219,5 +221,5 @@ tech_names-grown book [] = sym (append-nil (tech_names book))
 tech_names-grown book (tech ∷ techs) =
     tech_names-grown (with_tech_text book tech) techs
     ∙ ap (λ (names : List (List ℕ)). names ++ map (λ t. t.name) techs)
-        (tech_names-with_lib_texts (length book.techs) (with_tech book tech.name) tech.libs ∙ tech_names-with_tech book tech.name)
+    (tech_names-with_lib_texts (length book.techs) (with_tech book tech.name) tech.libs ∙ tech_names-with_tech book tech.name)
     ∙ append_assoc (tech_names book) (tech.name ∷ []) (map (λ t. t.name) techs)

@@ -31,9 +31,11 @@ pub pins_more : (t id count i : ℕ) (old now next : Book) (l after : Left) (tot
     → (pin : Pin) × (pin_next (pin_name_list (pins_in now t id)) l ≡ Ok (pin, after)) × (next ≡ with_pin now t id pin)
     → PinsSoFar t id count (i + 1) old next after total
 pins_more t id count i old now next l after total lt there none so_far one =
-    let are = pins_are t id count i old now l total there none so_far in
-    (so_far.0 ++ one.0 ∷ [], grown_more (add_pin t id) pin_item count i old now next l after total so_far.0 one.0 lt
-      (ap (λ (ps : List Pin). pin_next (pin_name_list ps) l) (sym are) ∙ one.1) one.2 so_far.1)
+    let are = pins_are t id count i old now l total there none so_far in (
+      so_far.0 ++ one.0 ∷ [],
+      grown_more (add_pin t id) pin_item count i old now next l after total so_far.0 one.0 lt
+          (ap (λ (ps : List Pin). pin_next (pin_name_list ps) l) (sym are) ∙ one.1) one.2 so_far.1,
+    )
 
 pub pins_fault : (e : TextFault) (t id count i : ℕ) (old now : Book) (l : Left) (total : Read (List Pin)) → i < count → IsTrue (has old t id) → pins_in old t id ≡ []
     → PinsSoFar t id count i old now l total → GivesFault e (pin_next (pin_name_list (pins_in now t id)) l) → GivesFault e total
@@ -66,7 +68,7 @@ libs_more t count i old now next l after total lt so_far gives =
       items = so_far.items ++ one.0 ∷ [];
       grown = grown_more (with_lib_text t) lib_item count i old now next l after total so_far.items one.0 lt one.1 one.2 so_far.grown;
       knows = λ name. ap (λ (b : Book). has_name b t name) one.2 ∙ knows name
-        ∙ ap (is_among name) (sym (map_push (λ (lib : LibText). lib.name) so_far.items one.0));
+          ∙ ap (is_among name) (sym (map_push (λ (lib : LibText). lib.name) so_far.items one.0));
       below = omega (arith, so_far.below, ap (λ (b : Book). length b.techs) one.2, techs-with_lib_text t now one.0);
     }
 
@@ -93,9 +95,11 @@ pub techs_more : (count i : ℕ) (old now next : Book) (l after : Left) (total :
     → (tech : TechText) × (tech_next (tech_names now) l ≡ Ok (tech, after)) × (next ≡ with_tech_text now tech)
     → TechsSoFar count (i + 1) old next after total
 techs_more count i old now next l after total lt none so_far one =
-    let are = techs_are count i old now l total none so_far in
-    (so_far.0 ++ one.0 ∷ [], grown_more with_tech_text tech_item count i old now next l after total so_far.0 one.0 lt
-      (ap (λ (names : List (List ℕ)). tech_next names l) (sym are) ∙ one.1) one.2 so_far.1)
+    let are = techs_are count i old now l total none so_far in (
+      so_far.0 ++ one.0 ∷ [],
+      grown_more with_tech_text tech_item count i old now next l after total so_far.0 one.0 lt
+          (ap (λ (names : List (List ℕ)). tech_next names l) (sym are) ∙ one.1) one.2 so_far.1,
+    )
 
 pub techs_fault : (e : TextFault) (count i : ℕ) (old now : Book) (l : Left) (total : Read (List TechText)) → i < count → tech_names old ≡ [] → TechsSoFar count i old now l total
     → GivesFault e (tech_next (tech_names now) l) → GivesFault e total

@@ -62,7 +62,7 @@ place_again name_of before [] k x new at = absurd cc
 place_again {A} name_of before (y ∷ xs) zero x new at =
     let same : y ≡ x = cc in
     subst (λ (z : A). place_of (name_of z) (before ++ name_of y ∷ map name_of xs) ≡ Some (length before + 0)) same
-      (place_behind (name_of y) before (map name_of xs) new.0 ∙ ap Some (omega arith))
+    (place_behind (name_of y) before (map name_of xs) new.0 ∙ ap Some (omega arith))
 place_again name_of before (y ∷ xs) (suc k) x new at =
     let others = place_again name_of (before ++ name_of y ∷ []) xs k x new.1 at in
     ap (place_of (name_of x)) (sym (append_assoc before (name_of y ∷ []) (map name_of xs))) ∙ others
@@ -83,8 +83,8 @@ place_same a b (first ∷ names) k p q =
     both (first_case (bytes_eq first a) (place_of a names) k p) (first_case (bytes_eq first b) (place_of b names) k q) (place_same a b names)
   where
     both : ((bytes_eq first a ≡ true) × (k ≡ 0)) ⊎ ((bytes_eq first a ≡ false) × ((j : ℕ) × (place_of a names ≡ Some j) × (k ≡ suc j)))
-      → ((bytes_eq first b ≡ true) × (k ≡ 0)) ⊎ ((bytes_eq first b ≡ false) × ((j : ℕ) × (place_of b names ≡ Some j) × (k ≡ suc j)))
-      → ((j : ℕ) → place_of a names ≡ Some j → place_of b names ≡ Some j → a ≡ b) → a ≡ b
+        → ((bytes_eq first b ≡ true) × (k ≡ 0)) ⊎ ((bytes_eq first b ≡ false) × ((j : ℕ) × (place_of b names ≡ Some j) × (k ≡ suc j)))
+        → ((j : ℕ) → place_of a names ≡ Some j → place_of b names ≡ Some j → a ≡ b) → a ≡ b
     both (inl x) (inl y) rest = sym (bytes_same first a x.0) ∙ bytes_same first b y.0
     both (inl x) (inr y) rest = absurd (omega (arith, x.1, y.1.2))
     both (inr x) (inl y) rest = absurd (omega (arith, x.1.2, y.1))
@@ -99,8 +99,8 @@ place_stays a [] more k p = absurd cc
 place_stays a (first ∷ names) more k p = by (first_case (bytes_eq first a) (place_of a names) k p) (place_stays a names more)
   where
     by : ((bytes_eq first a ≡ true) × (k ≡ 0)) ⊎ ((bytes_eq first a ≡ false) × ((j : ℕ) × (place_of a names ≡ Some j) × (k ≡ suc j)))
-      → ((j : ℕ) → place_of a names ≡ Some j → place_of a (names ++ more) ≡ Some j)
-      → cond (bytes_eq first a) (Some 0) (option_map (λ (n : ℕ). n + 1) (place_of a (names ++ more))) ≡ Some k
+        → ((j : ℕ) → place_of a names ≡ Some j → place_of a (names ++ more) ≡ Some j)
+        → cond (bytes_eq first a) (Some 0) (option_map (λ (n : ℕ). n + 1) (place_of a (names ++ more))) ≡ Some k
     by (inl x) rest = rw (x.0, x.1) refl
     by (inr x) rest = rw (x.0, rest x.1.0 x.1.1, x.1.2) (ap Some (add-one x.1.0))
 
@@ -116,6 +116,7 @@ place-push a n (first ∷ names) none =
     no_value : (o : Option ℕ) → is_some o ≡ false → o ≡ None
     no_value None e = refl
     no_value (Some k) e = absurd cc
+
     shifted : (b : Bool) (m : ℕ) → option_map (λ (n : ℕ). n + 1) (cond b (Some m) None) ≡ cond b (Some (suc m)) None
     shifted true m = ap Some (add-one m)
     shifted false m = refl
@@ -132,8 +133,9 @@ is_among-push a n (first ∷ names) = by (bytes_eq first a) (bytes_eq n a) (plac
     kept : (o : Option ℕ) → is_some (option_map (λ (k : ℕ). k + 1) o) ≡ is_some o
     kept None = refl
     kept (Some k) = refl
+
     by : (b c : Bool) (o p : Option ℕ) → is_some p ≡ cond c true (is_some o)
-      → is_some {T = ℕ} (cond b (Some 0) (option_map (λ (k : ℕ). k + 1) p)) ≡ cond c true (is_some {T = ℕ} (cond b (Some 0) (option_map (λ (k : ℕ). k + 1) o)))
+        → is_some {T = ℕ} (cond b (Some 0) (option_map (λ (k : ℕ). k + 1) p)) ≡ cond c true (is_some {T = ℕ} (cond b (Some 0) (option_map (λ (k : ℕ). k + 1) o)))
     by true true o p e = refl
     by true false o p e = refl
     by false c o p e = kept p ∙ e ∙ ap (cond c true) (sym (kept o))

@@ -147,7 +147,7 @@ unfolding sections_next
 sections_ok techs zero before found l f r are e =
     let same = ok_is {A = Found × Left} (found, l) (f, r) e in
     subst (λ (p : Found × Left). SectionsTaken techs zero before found l p.0 p.1) same
-      (record { order = []; count_is = refl; each = refl; keeps = keeps_refl found; same = refl; more = omega arith })
+    (record { order = []; count_is = refl; each = refl; keeps = keeps_refl found; same = refl; more = omega arith })
 sections_ok techs (suc n) before found l f r are e =
     let b = bind_ok (section_next (tech_name_list techs) found l) _ _ e in
     let one = section_ok techs found l b.0.0 b.0.1 b.1 in
@@ -209,4 +209,3 @@ none_read (Tech Top) = refl
 none_read (Tech Bottom) = refl
 none_read TerminalSize = refl
 none_read TerminalSpacing = refl
-

@@ -53,12 +53,14 @@ nothing_ok keyword l n r e =
     let k = bind_ok (keyword_next keyword l) _ _ e in
     let named = keyword_ok keyword l k.0.0 k.0.1 k.1 in
     let count = number_ok 0 0 kinds.Limit k.0.1 n r k.2 in
-    let none : n ≡ 0 = omega (arith, count.0.2.at_most) in
-    (record {
-      after_keyword = k.0.1.words;
-      named = named.0;
-      count = (count.0.0, r.words, count.0.1, subst (λ (m : ℕ). Spells 0 0 count.0.0.text m) none count.0.2, refl);
-    }, count.1 ∙ named.1)
+    let none : n ≡ 0 = omega (arith, count.0.2.at_most) in (
+      record {
+        after_keyword = k.0.1.words;
+        named = named.0;
+        count = (count.0.0, r.words, count.0.1, subst (λ (m : ℕ). Spells 0 0 count.0.0.text m) none count.0.2, refl);
+      },
+      count.1 ∙ named.1,
+    )
 
 nothing_again : (keyword : List ℕ) (l : Left) (rest : List Word) → IsNothing keyword l.words rest → nothing_next keyword l ≡ Ok (0, left_of l rest)
 unfolding nothing_next
@@ -104,10 +106,10 @@ unfolding front_next count_true
 front_again l text after_techs rest techs sections =
     let t = techs_again l text.techs after_techs techs in
     let s = sections_again text.techs text.setup sections.order [] none_found (left_of l after_techs) rest
-      (each_new [] text.techs techs.after_count after_techs techs.items) (λ section. sym (none_read section)) none_agree sections.each in
+    (each_new [] text.techs techs.after_count after_techs techs.items) (λ section. sym (none_read section)) none_agree sections.each in
     let f = s.found_then in
     let nine : sections_next (tech_name_list text.techs) 9 none_found (left_of l after_techs) ≡ Ok (f, left_of l rest) =
-      subst (λ (n : ℕ). sections_next (tech_name_list text.techs) n none_found (left_of l after_techs) ≡ Ok (f, left_of l rest)) sections.nine s.read in
+    subst (λ (n : ℕ). sections_next (tech_name_list text.techs) n none_found (left_of l after_techs) ≡ Ok (f, left_of l rest)) sections.nine s.read in
     let count : found_count f ≡ 9 = omega (arith, s.more, sections.nine) in
     let all : (section : Section) → has_section f section ≡ true = λ section. has_bit f section ∙ all_set (bits f) (section_number section) count (number_small f section) in
     let setup = setup_is text.setup f all s.agrees in

@@ -202,7 +202,7 @@ die_spec die = record {
   start_y = (rows_of die).start_y;
   length = (rows_of die).length;
   height = (rows_of die).height;
-  repeat = (rows_of die).repeat
+  repeat = (rows_of die).repeat;
 }
 
 abbrev pub no_frame : Frame
@@ -213,15 +213,15 @@ setup_of found = record {
   frame = unwrap_or found.frame no_frame;
   top = die_spec found.top;
   bottom = die_spec found.bottom;
-  terminal = record { size_x = (unwrap_or found.size (0, 0)).0; size_y = (unwrap_or found.size (0, 0)).1; spacing = unwrap_or found.spacing 0 }
+  terminal = record { size_x = (unwrap_or found.size (0, 0)).0; size_y = (unwrap_or found.size (0, 0)).1; spacing = unwrap_or found.spacing 0 };
 }
 
 -- the setup where both dies' rows lie in the frame; else the first that does not, at its rows' keyword
 unfoldable pub setup_checked : Found → Left → Read Setup
 setup_checked found l =
     if rows_lie (setup_of found).frame (setup_of found).top
-      then (if rows_lie (setup_of found).frame (setup_of found).bottom then Ok (setup_of found, l) else fault (rows_of found.bottom).at kinds.Rows)
-      else fault (rows_of found.top).at kinds.Rows
+    then (if rows_lie (setup_of found).frame (setup_of found).bottom then Ok (setup_of found, l) else fault (rows_of found.bottom).at kinds.Rows)
+    else fault (rows_of found.top).at kinds.Rows
 
 -- a keyword with a count that has to be 0
 unfoldable pub nothing_next : List ℕ → Left → Read ℕ

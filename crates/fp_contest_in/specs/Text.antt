@@ -58,5 +58,5 @@ plan_of text = record {
   frame = text.setup.frame;
   top = text.setup.top;
   bottom = text.setup.bottom;
-  terminal = text.setup.terminal
+  terminal = text.setup.terminal;
 }

@@ -22,7 +22,14 @@ fn dies_of(alloc: Global, book: TechBook, found: Found) -> Result<Dies, TextFaul
     ensures { (left : Left) → GivesSetup book found result left (setup_checked found left) }
 {
     let setup = found.setup();
-    match Dies::new(alloc, book, setup.frame, setup.top, setup.bottom, setup.terminal) {
+    match Dies::new(
+        alloc,
+        book,
+        setup.frame,
+        setup.top,
+        setup.bottom,
+        setup.terminal,
+    ) {
         Ok(dies) => Ok(dies),
         Err(DiesFault::RowsOutside(die)) => Err(TextFault::Wrong {
             at: found.die(die).rows.unwrap().at,

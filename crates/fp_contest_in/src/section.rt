@@ -139,7 +139,10 @@ impl Found {
     {
         match die {
             Die::Top => Found { top: found, ..self },
-            Die::Bottom => Found { bottom: found, ..self },
+            Die::Bottom => Found {
+                bottom: found,
+                ..self
+            },
         }
     }
 

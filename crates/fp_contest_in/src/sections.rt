@@ -105,15 +105,33 @@ fn fields(
         }
         Section::MaxUtil(die) => {
             let percent = Some(number(tokens, 0, 100, Kind::Range)?);
-            Ok(found.with_die(die, DieFound { percent, ..found.die(die) }))
+            Ok(found.with_die(
+                die,
+                DieFound {
+                    percent,
+                    ..found.die(die)
+                },
+            ))
         }
         Section::Rows(die) => {
             let rows = Some(rows(at, tokens)?);
-            Ok(found.with_die(die, DieFound { rows, ..found.die(die) }))
+            Ok(found.with_die(
+                die,
+                DieFound {
+                    rows,
+                    ..found.die(die)
+                },
+            ))
         }
         Section::Tech(die) => {
             let tech = Some(tech(book, tokens)?);
-            Ok(found.with_die(die, DieFound { tech, ..found.die(die) }))
+            Ok(found.with_die(
+                die,
+                DieFound {
+                    tech,
+                    ..found.die(die)
+                },
+            ))
         }
         Section::TerminalSize => {
             let size = Some(sizes(tokens)?);
@@ -128,11 +146,7 @@ fn fields(
 
 /// The next section, whose keyword begins none that was read before.
 #[tactic(auto, unfolding(crate::specs::Statements::section_next))]
-fn next_section(
-    book: &TechBook,
-    found: Found,
-    tokens: &mut Tokens<'_>,
-) -> Result<Found, TextFault>
+fn next_section(book: &TechBook, found: Found, tokens: &mut Tokens<'_>) -> Result<Found, TextFault>
     requires { AreInRange (length book.now.techs) found }
     ensures gives { Gives (λ f. f) result tokens.new (section_next (tech_names book.now) found tokens.old) }
     ensures range { IfOk result (AreInRange (length book.now.techs)) }

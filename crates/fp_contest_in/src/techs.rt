@@ -14,7 +14,9 @@ use fp_text::{Kind, TextFault, Tokens, Word};
 
 /// The most technologies, library cells of a technology, and pins of a library cell.
 const TECHS: u32 = 16;
+
 const LIBS: u32 = 4096;
+
 const PINS: u32 = 1024;
 
 /// The next token as the name of a pin that the library cell does not have.
@@ -47,10 +49,8 @@ fn next_pin(
     tokens: &mut Tokens<'_>,
 ) -> Result<(), TextFault>
     requires { IsTrue (has book.old tech.0 lib.0) }
-    ensures {
-        Grows (λ b pin. with_pin b tech.0 lib.0 pin) result book.old book.new tokens.new
-            (pin_next (pin_name_list (pins_in book.old tech.0 lib.0)) tokens.old)
-    }
+    ensures { Grows (λ b pin. with_pin b tech.0 lib.0 pin) result book.old book.new tokens.new
+        (pin_next (pin_name_list (pins_in book.old tech.0 lib.0)) tokens.old) }
 {
     tokens.keyword(b"Pin")?;
     let name = new_pin_name(book, tech, lib, tokens)?;
@@ -72,9 +72,7 @@ fn pins(
 ) -> Result<(), TextFault>
     requires there { IsTrue (has book.old tech.0 lib.0) }
     requires none { pins_in book.old tech.0 lib.0 ≡ [] }
-    ensures {
-        Grows (with_pins tech.0 lib.0) result book.old book.new tokens.new (many_next pin_item count [] tokens.old)
-    }
+    ensures { Grows (with_pins tech.0 lib.0) result book.old book.new tokens.new (many_next pin_item count [] tokens.old) }
 {
     for _ in 0..count {
         next_pin(book, tech, lib, tokens)?;
@@ -143,9 +141,7 @@ fn libs(
 ) -> Result<(), TextFault>
     requires there { tech.0 < length book.old.techs }
     requires none { Knows book.old tech.0 [] }
-    ensures {
-        Grows (with_lib_texts tech.0) result book.old book.new tokens.new (many_next lib_item count [] tokens.old)
-    }
+    ensures { Grows (with_lib_texts tech.0) result book.old book.new tokens.new (many_next lib_item count [] tokens.old) }
 {
     for _ in 0..count {
         next_lib(book, tech, tokens)?;
@@ -171,9 +167,7 @@ fn new_tech_name<'a>(book: &TechBook, tokens: &mut Tokens<'a>) -> Result<Word<'a
 /// Adds the next technology, with its library cells.
 #[tactic(auto, unfolding(crate::specs::Statements::tech_next))]
 fn next_tech(book: &mut TechBook, tokens: &mut Tokens<'_>) -> Result<(), TextFault>
-    ensures {
-        Grows with_tech_text result book.old book.new tokens.new (tech_next (tech_names book.old) tokens.old)
-    }
+    ensures { Grows with_tech_text result book.old book.new tokens.new (tech_next (tech_names book.old) tokens.old) }
 {
     tokens.keyword(b"Tech")?;
     let name = new_tech_name(book, tokens)?;
@@ -185,15 +179,9 @@ fn next_tech(book: &mut TechBook, tokens: &mut Tokens<'_>) -> Result<(), TextFau
 }
 
 /// Adds so many technologies to a book without any.
-fn many_techs(
-    book: &mut TechBook,
-    count: u32,
-    tokens: &mut Tokens<'_>,
-) -> Result<(), TextFault>
+fn many_techs(book: &mut TechBook, count: u32, tokens: &mut Tokens<'_>) -> Result<(), TextFault>
     requires { tech_names book.old ≡ [] }
-    ensures {
-        Grows with_tech_texts result book.old book.new tokens.new (many_next tech_item count [] tokens.old)
-    }
+    ensures { Grows with_tech_texts result book.old book.new tokens.new (many_next tech_item count [] tokens.old) }
 {
     for _ in 0..count {
         next_tech(book, tokens)?;

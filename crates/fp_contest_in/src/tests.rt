@@ -16,7 +16,9 @@ BottomDieRows 0 0 20 10 2\nTopDieRows 1 0 19 10 2\nBottomDieMaxUtil 50\nTopDieMa
 #[test]
 fn reads_sections_in_any_order(rt: HostRuntime) -> Result<(), Fail> {
     let text = format!(in rt.alloc(); "{TECHS}{SECTIONS}NumInstances 0\r\nNumNets\t0")?;
-    let dies = read_problem(rt.alloc(), text.as_bytes()).ok().ok_or("an input")?;
+    let dies = read_problem(rt.alloc(), text.as_bytes())
+        .ok()
+        .ok_or("an input")?;
     assert_eq!(rt; dies.frame().ury, 21);
     assert_eq!(rt; dies.spec(Die::Top).start_x, 1);
     assert_eq!(rt; dies.spec(Die::Bottom).tech, TechId(1));

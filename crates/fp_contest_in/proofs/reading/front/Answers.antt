@@ -10,4 +10,4 @@ returns-in_err-found c =
 pub returns : goal.returns
 returns c =
     front_done c.dies_of.result c.new-book.result c.techs.new.book c.in_ok-found.found c.args.tokens.now c.techs.new.tokens c.sections.new.tokens c.new-book.ensures c.in_ok-techs.ensures
-      c.in_ok-found.ensures.gives c.dies_of.ensures
+    c.in_ok-found.ensures.gives c.dies_of.ensures

@@ -14,14 +14,14 @@ pub returns-in_err-next_tech : goal.returns-in_err-next_tech
 returns-in_err-next_tech c =
     let p = err_from_is_err_and c.from_residual.result c.from_residual.ensures.1 in
     rw (p.1, p.2) (techs_fault c.in_err-next_tech.field-0.0 c.args.count c.loop.counter c.args.book.now c.loop.book c.loop.tokens
-      (many_next tech_item c.args.count [] c.args.tokens.now) c.loop-test.true c.requires c.loop.invariant c.in_err-next_tech.ensures)
+    (many_next tech_item c.args.count [] c.args.tokens.now) c.loop-test.true c.requires c.loop.invariant c.in_err-next_tech.ensures)
 
 pub loop-preserved : goal.loop-preserved
 loop-preserved c =
     techs_more c.args.count c.loop.counter c.args.book.now c.loop.book c.next_tech.new.book c.loop.tokens c.next_tech.new.tokens
-      (many_next tech_item c.args.count [] c.args.tokens.now) c.loop-test.true c.requires c.loop.invariant c.in_ok-next_tech.ensures
+    (many_next tech_item c.args.count [] c.args.tokens.now) c.loop-test.true c.requires c.loop.invariant c.in_ok-next_tech.ensures
 
 pub returns : goal.returns
 returns c =
     techs_all c.args.count c.loop.counter c.args.book.now c.loop.book c.loop.tokens
-      (many_next tech_item c.args.count [] c.args.tokens.now) c.loop-test.false c.loop.invariant
+    (many_next tech_item c.args.count [] c.args.tokens.now) c.loop-test.false c.loop.invariant

@@ -12,20 +12,20 @@ loop-init c = ([], grown_none (add_pin c.args.tech.0 c.args.lib.0) pin_item c.ar
 pub next_pin-requires : goal.next_pin-requires
 next_pin-requires c =
     pins_there c.args.tech.0 c.args.lib.0 c.args.count c.loop.counter c.args.book.now c.loop.book c.loop.tokens
-      (many_next pin_item c.args.count [] c.args.tokens.now) c.requires.there c.loop.invariant
+    (many_next pin_item c.args.count [] c.args.tokens.now) c.requires.there c.loop.invariant
 
 pub returns-in_err-next_pin : goal.returns-in_err-next_pin
 returns-in_err-next_pin c =
     let p = err_from_is_err_and c.from_residual.result c.from_residual.ensures.1 in
     rw (p.1, p.2) (pins_fault c.in_err-next_pin.field-0.0 c.args.tech.0 c.args.lib.0 c.args.count c.loop.counter c.args.book.now c.loop.book c.loop.tokens
-      (many_next pin_item c.args.count [] c.args.tokens.now) c.loop-test.true c.requires.there c.requires.none c.loop.invariant c.in_err-next_pin.ensures)
+    (many_next pin_item c.args.count [] c.args.tokens.now) c.loop-test.true c.requires.there c.requires.none c.loop.invariant c.in_err-next_pin.ensures)
 
 pub loop-preserved : goal.loop-preserved
 loop-preserved c =
     pins_more c.args.tech.0 c.args.lib.0 c.args.count c.loop.counter c.args.book.now c.loop.book c.next_pin.new.book c.loop.tokens c.next_pin.new.tokens
-      (many_next pin_item c.args.count [] c.args.tokens.now) c.loop-test.true c.requires.there c.requires.none c.loop.invariant c.in_ok-next_pin.ensures
+    (many_next pin_item c.args.count [] c.args.tokens.now) c.loop-test.true c.requires.there c.requires.none c.loop.invariant c.in_ok-next_pin.ensures
 
 pub returns : goal.returns
 returns c =
     pins_all c.args.tech.0 c.args.lib.0 c.args.count c.loop.counter c.args.book.now c.loop.book c.loop.tokens
-      (many_next pin_item c.args.count [] c.args.tokens.now) c.loop-test.false c.loop.invariant
+    (many_next pin_item c.args.count [] c.args.tokens.now) c.loop-test.false c.loop.invariant
