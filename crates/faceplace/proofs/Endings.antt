@@ -33,12 +33,16 @@ pub unwritten : {T E : Type 0} (result : Result T E) (input output : List ℕ) (
     → after.written ≡ before.written → after.sink_faults ≡ before.sink_faults
     → EndsAs (Some (Seed input output)) 6 before after
 unwritten (Ok x) input output plan before mid after err says same le others rose quiet steady = absurd cc
-unwritten (Err e) input output plan before mid after err says same le others rose quiet steady =
-    (Device, refl, inr (inl (
-      rose_since before.folder_faults mid.folder_faults after.folder_faults le rose,
-      (says.0, says.2),
-      subst (λ (held : Option Files). OthersStay output held after.held) same others,
-      (quiet, steady))))
+unwritten (Err e) input output plan before mid after err says same le others rose quiet steady = (
+  Device,
+  refl,
+  inr (inl (
+    rose_since before.folder_faults mid.folder_faults after.folder_faults le rose,
+    (says.0, says.2),
+    subst (λ (held : Option Files). OthersStay output held after.held) same others,
+    (quiet, steady),
+  )),
+)
 
 -- the report of a problem's seed
 seed_reported : (plan : Plan) (text : ProblemText) (slots : Slots) (report : List ℕ) → plan ≡ plan_of text → IsGrid plan.frame plan.terminal slots → report ≡ seed_report (slot_count slots) → IsSeedReport text report

@@ -36,7 +36,6 @@ FolderRose old new = Rose old.folder_faults new.folder_faults
 abbrev pub SinkRose : Outside → Outside → Type 0
 SinkRose old new = Rose old.sink_faults new.sink_faults
 
-
 -- no file changed
 abbrev pub SameFiles : Outside → Outside → Type 0
 SameFiles old new = new.held ≡ old.held

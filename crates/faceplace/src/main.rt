@@ -1,4 +1,4 @@
-//! The program `faceplace`.
+//! The program `faceplace`: `faceplace seed IN OUT` writes the first-fit placement of a contest input.
 #![tactic(auto)]
 
 mod input;
@@ -8,6 +8,32 @@ mod request;
 mod run;
 mod status;
 
+use fp_base::{DirFolder, StdoutSink};
 pub use run::run;
+use std::process::ExitCode;
+use std::{env, io};
 
-fn main() {}
+/// The status where the runtime cannot give the words.
+const NO_WORDS: u8 = 7;
+
+/// The words after the program's name.
+fn words_of(rt: &HostRuntime) -> io::Result<Vec<String>> {
+    Ok(env::args(rt)?.skip(1).collect(rt.alloc())?)
+}
+
+/// Does what the words ask for over real files and standard output, and ends with the status.
+fn main(rt: HostRuntime) -> ExitCode {
+    let words = match words_of(&rt) {
+        Ok(words) => words,
+        Err(error) if error.kind() == io::ErrorKind::OutOfMemory => return ExitCode::from(1),
+        Err(_) => return ExitCode::from(NO_WORDS),
+    };
+    let Ok(mut folder) = DirFolder::new(&rt, rt.alloc()) else {
+        return ExitCode::from(1);
+    };
+    let mut out = StdoutSink::new(&rt);
+    ExitCode::from(run(rt.alloc(), words.as_slice(), &mut folder, &mut out))
+}
+
+#[cfg(test)]
+mod tests;

@@ -58,12 +58,7 @@ fn seed<F: Folder, S: Sink>(
 }
 
 /// Does what the words ask for.
-fn serve<F: Folder, S: Sink>(
-    alloc: Global,
-    words: &[String],
-    folder: &mut F,
-    out: &mut S,
-) -> Status
+fn serve<F: Folder, S: Sink>(alloc: Global, words: &[String], folder: &mut F, out: &mut S) -> Status
     ensures { EndsAs (asks (map string_bytes words.now)) (code_of result)
         (outside (F.held folder.old) (S.written out.old) (F.faults folder.old) (S.faults out.old))
         (outside (F.held folder.new) (S.written out.new) (F.faults folder.new) (S.faults out.new)) }

@@ -16,11 +16,12 @@ use Rattle.fp_contest_in.specs.declared.section.Section.TheVariants.{DieSize, Ma
 use Rattle.fp_contest_in.specs.declared.section.RowsFound.{RowsFound}
 use Rattle.fp_contest_in.specs.declared.section.DieFound.{DieFound}
 use Rattle.fp_contest_in.specs.declared.section.Found.{Found}
-use Rattle.fp_contest_in.specs.Text.{TechText, Setup, tech_name_list}
+use Rattle.fp_contest_in.specs.declared.section.Setup.{Setup}
+use Rattle.fp_contest_in.specs.Text.{TechText, tech_name_list}
 use Rattle.fp_contest_in.specs.Grammar.{Named, Numbers, Ranged, any_number, ranged, most_number, die_of, NamesTech, HasFields, section_number}
 use Rattle.fp_contest_in.specs.Statements.{frame_next, rows_next, known_tech, tech_name_next, sizes_next, fields_next, die_found, set_die, has_section, bits, setup_of, no_frame, no_rows}
 use Rattle.fp_contest_in.proofs.Taken.{name_ok, name_again, number_ok, number_again}
-use Rattle.fp_contest_in.proofs.Techs.{TwoSizes, sizes_ok, sizes_again}
+use Rattle.fp_contest_in.proofs.TechsAgree.{TwoSizes, sizes_ok, sizes_again}
 use Rattle.fp_contest_in.proofs.Bits.{with_bit}
 use Rattle.fp_contest_in.proofs.Names.{AreNew, place_is, place_again}
 
@@ -41,9 +42,10 @@ frame_ok l frame r e =
     let at_c = number_ok (a.0.0 + 1) most_number kinds.Range b.0.1 c.0.0 c.0.1 c.1 in
     let at_d = number_ok (b.0.0 + 1) most_number kinds.Range c.0.1 d.0.0 d.0.1 d.1 in
     let read : ◌≡◌ {A = Frame × Left} (record { llx = a.0.0; lly = b.0.0; urx = c.0.0; ury = d.0.0 }, d.0.1) (frame, r) = cc in
-    subst (λ (p : Frame × Left). FrameFields p.0 l.words p.1.words × (p.1.bytes ≡ l.bytes)) read
-      ((at_a.0.0, a.0.1.words, at_a.0.1, at_a.0.2, (at_b.0.0, b.0.1.words, at_b.0.1, at_b.0.2, (at_c.0.0, c.0.1.words, at_c.0.1, at_c.0.2, (at_d.0.0, d.0.1.words, at_d.0.1, at_d.0.2, refl)))),
-       at_d.1 ∙ at_c.1 ∙ at_b.1 ∙ at_a.1)
+    subst (λ (p : Frame × Left). FrameFields p.0 l.words p.1.words × (p.1.bytes ≡ l.bytes)) read (
+      (at_a.0.0, a.0.1.words, at_a.0.1, at_a.0.2, (at_b.0.0, b.0.1.words, at_b.0.1, at_b.0.2, (at_c.0.0, c.0.1.words, at_c.0.1, at_c.0.2, (at_d.0.0, d.0.1.words, at_d.0.1, at_d.0.2, refl)))),
+      at_d.1 ∙ at_c.1 ∙ at_b.1 ∙ at_a.1,
+    )
 
 pub frame_again : (l : Left) (frame : Frame) (rest : List Word) → FrameFields frame l.words rest → frame_next l ≡ Ok (frame, left_of l rest)
 unfolding frame_next
@@ -75,10 +77,22 @@ rows_ok at l rows r e =
     let at_d = number_ok 1 (2 ^ 16) kinds.Limit s.0.1 d.0.0 d.0.1 d.1 in
     let read : ◌≡◌ {A = RowsFound × Left} (record { at = at; start_x = a.0.0; start_y = b.0.0; length = s.0.0.0; height = s.0.0.1; repeat = d.0.0 }, d.0.1) (rows, r) = cc in
     let h = at_s.0.4 in
-    subst (λ (p : RowsFound × Left). RowsFields p.0 l.words p.1.words × (p.1.bytes ≡ l.bytes)) read
-      ((at_a.0.0, a.0.1.words, at_a.0.1, at_a.0.2, (at_b.0.0, b.0.1.words, at_b.0.1, at_b.0.2,
-        (at_s.0.0, at_s.0.1, at_s.0.2, at_s.0.3, (h.0, h.1, h.2, h.3, (at_d.0.0, d.0.1.words, h.4 ∙ at_d.0.1, at_d.0.2, refl))))),
-       at_d.1 ∙ at_s.1 ∙ at_b.1 ∙ at_a.1)
+    subst (λ (p : RowsFound × Left). RowsFields p.0 l.words p.1.words × (p.1.bytes ≡ l.bytes)) read (
+      (
+        at_a.0.0,
+        a.0.1.words,
+        at_a.0.1,
+        at_a.0.2,
+        (
+          at_b.0.0,
+          b.0.1.words,
+          at_b.0.1,
+          at_b.0.2,
+          (at_s.0.0, at_s.0.1, at_s.0.2, at_s.0.3, (h.0, h.1, h.2, h.3, (at_d.0.0, d.0.1.words, h.4 ∙ at_d.0.1, at_d.0.2, refl))),
+        ),
+      ),
+      at_d.1 ∙ at_s.1 ∙ at_b.1 ∙ at_a.1,
+    )
 
 -- rows with the place of their keyword
 abbrev pub rows_at : ℕ → RowsFound → RowsFound
@@ -116,7 +130,7 @@ tech_ok techs l tech r e =
     let known = known_ok (place_of n.0.0.text (tech_name_list techs)) n.0.0.at n.0.1 tech r n.2 in
     let place = place_is name_of_tech n.0.0.text techs tech.0 known.0 in
     subst (λ (left : Left). NamesTech techs tech.0 l.words left.words × (left.bytes ≡ l.bytes)) known.1
-      ((place.0, place.1, subst (λ (name : List ℕ). Named name l.words n.0.1.words) (sym place.2) named.0), named.1)
+    ((place.0, place.1, subst (λ (name : List ℕ). Named name l.words n.0.1.words) (sym place.2) named.0), named.1)
 
 pub tech_again : (techs : List TechText) (l : Left) (number : ℕ) (rest : List Word) → AreNew [] (tech_name_list techs) → NamesTech techs number l.words rest
     → tech_name_next (tech_name_list techs) l ≡ Ok (record { 0 = number }, left_of l rest)

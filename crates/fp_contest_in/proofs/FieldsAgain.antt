@@ -16,11 +16,12 @@ use Rattle.fp_contest_in.specs.declared.section.Section.TheVariants.{DieSize, Ma
 use Rattle.fp_contest_in.specs.declared.section.RowsFound.{RowsFound}
 use Rattle.fp_contest_in.specs.declared.section.DieFound.{DieFound}
 use Rattle.fp_contest_in.specs.declared.section.Found.{Found}
-use Rattle.fp_contest_in.specs.Text.{TechText, Setup, tech_name_list}
+use Rattle.fp_contest_in.specs.declared.section.Setup.{Setup}
+use Rattle.fp_contest_in.specs.Text.{TechText, tech_name_list}
 use Rattle.fp_contest_in.specs.Grammar.{Named, Numbers, Ranged, any_number, ranged, most_number, die_of, NamesTech, HasFields, section_number}
 use Rattle.fp_contest_in.specs.Statements.{frame_next, rows_next, known_tech, tech_name_next, sizes_next, fields_next, die_found, set_die, has_section, bits, setup_of, no_frame, no_rows}
 use Rattle.fp_contest_in.proofs.Taken.{name_ok, name_again, number_ok, number_again}
-use Rattle.fp_contest_in.proofs.Techs.{TwoSizes, sizes_ok, sizes_again}
+use Rattle.fp_contest_in.proofs.TechsAgree.{TwoSizes, sizes_ok, sizes_again}
 use Rattle.fp_contest_in.proofs.Bits.{with_bit}
 use Rattle.fp_contest_in.proofs.Names.{AreNew, place_is, place_again}
 use Rattle.fp_contest_in.specs.Statements.{die_spec, rows_of}
@@ -69,7 +70,7 @@ spec_is spec die a b c p r t =
       start_y = rows.start_y i;
       length = rows.long i;
       height = rows.high i;
-      repeat = rows.many i
+      repeat = rows.many i;
     }
 
 -- once all nine are read, they are the setup
@@ -101,146 +102,146 @@ pub fields_again : (techs : List TechText) (setup : Setup) (section : Section) (
     → Agrees setup found → HasFields techs setup section l.words rest → FieldsRead (tech_name_list techs) setup section at found l rest
 unfolding fields_next
 fields_again techs setup DieSize at found l rest new a says = record {
-      found_then = record found { frame = Some setup.frame };
-      read = rw (frame_again l setup.frame rest says) refl;
-      set = refl;
-      agrees = record {
-        frame = refl;
-        top_percent = a.top_percent;
-        bottom_percent = a.bottom_percent;
-        top_rows = a.top_rows;
-        bottom_rows = a.bottom_rows;
-        top_tech = a.top_tech;
-        bottom_tech = a.bottom_tech;
-        size = a.size;
-        spacing = a.spacing;
-      };
-    }
+  found_then = record found { frame = Some setup.frame };
+  read = rw (frame_again l setup.frame rest says) refl;
+  set = refl;
+  agrees = record {
+    frame = refl;
+    top_percent = a.top_percent;
+    bottom_percent = a.bottom_percent;
+    top_rows = a.top_rows;
+    bottom_rows = a.bottom_rows;
+    top_tech = a.top_tech;
+    bottom_tech = a.bottom_tech;
+    size = a.size;
+    spacing = a.spacing;
+  };
+}
 fields_again techs setup (MaxUtil Top) at found l rest new a says = record {
-      found_then = set_die found Top (record found.top { percent = Some setup.top.percent });
-      read = rw (one_again 0 100 kinds.Range l setup.top.percent rest says (omega arith)) refl;
-      set = refl;
-      agrees = record {
-        frame = a.frame;
-        top_percent = refl;
-        bottom_percent = a.bottom_percent;
-        top_rows = a.top_rows;
-        bottom_rows = a.bottom_rows;
-        top_tech = a.top_tech;
-        bottom_tech = a.bottom_tech;
-        size = a.size;
-        spacing = a.spacing;
-      };
-    }
+  found_then = set_die found Top (record found.top { percent = Some setup.top.percent });
+  read = rw (one_again 0 100 kinds.Range l setup.top.percent rest says (omega arith)) refl;
+  set = refl;
+  agrees = record {
+    frame = a.frame;
+    top_percent = refl;
+    bottom_percent = a.bottom_percent;
+    top_rows = a.top_rows;
+    bottom_rows = a.bottom_rows;
+    top_tech = a.top_tech;
+    bottom_tech = a.bottom_tech;
+    size = a.size;
+    spacing = a.spacing;
+  };
+}
 fields_again techs setup (Rows Top) at found l rest new a says = record {
-      found_then = set_die found Top (record found.top { rows = Some (rows_at at (rows_in setup.top)) });
-      read = rw (rows_again at l (rows_in setup.top) rest says) refl;
-      set = refl;
-      agrees = record {
-        frame = a.frame;
-        top_percent = a.top_percent;
-        bottom_percent = a.bottom_percent;
-        top_rows = record { start_x = refl; start_y = refl; long = refl; high = refl; many = refl };
-        bottom_rows = a.bottom_rows;
-        top_tech = a.top_tech;
-        bottom_tech = a.bottom_tech;
-        size = a.size;
-        spacing = a.spacing;
-      };
-    }
+  found_then = set_die found Top (record found.top { rows = Some (rows_at at (rows_in setup.top)) });
+  read = rw (rows_again at l (rows_in setup.top) rest says) refl;
+  set = refl;
+  agrees = record {
+    frame = a.frame;
+    top_percent = a.top_percent;
+    bottom_percent = a.bottom_percent;
+    top_rows = record { start_x = refl; start_y = refl; long = refl; high = refl; many = refl };
+    bottom_rows = a.bottom_rows;
+    top_tech = a.top_tech;
+    bottom_tech = a.bottom_tech;
+    size = a.size;
+    spacing = a.spacing;
+  };
+}
 fields_again techs setup (Tech Top) at found l rest new a says = record {
-      found_then = set_die found Top (record found.top { tech = Some setup.top.tech });
-      read = rw (tech_again techs l setup.top.tech.0 rest new says) refl;
-      set = refl;
-      agrees = record {
-        frame = a.frame;
-        top_percent = a.top_percent;
-        bottom_percent = a.bottom_percent;
-        top_rows = a.top_rows;
-        bottom_rows = a.bottom_rows;
-        top_tech = refl;
-        bottom_tech = a.bottom_tech;
-        size = a.size;
-        spacing = a.spacing;
-      };
-    }
+  found_then = set_die found Top (record found.top { tech = Some setup.top.tech });
+  read = rw (tech_again techs l setup.top.tech.0 rest new says) refl;
+  set = refl;
+  agrees = record {
+    frame = a.frame;
+    top_percent = a.top_percent;
+    bottom_percent = a.bottom_percent;
+    top_rows = a.top_rows;
+    bottom_rows = a.bottom_rows;
+    top_tech = refl;
+    bottom_tech = a.bottom_tech;
+    size = a.size;
+    spacing = a.spacing;
+  };
+}
 fields_again techs setup (MaxUtil Bottom) at found l rest new a says = record {
-      found_then = set_die found Bottom (record found.bottom { percent = Some setup.bottom.percent });
-      read = rw (one_again 0 100 kinds.Range l setup.bottom.percent rest says (omega arith)) refl;
-      set = refl;
-      agrees = record {
-        frame = a.frame;
-        top_percent = a.top_percent;
-        bottom_percent = refl;
-        top_rows = a.top_rows;
-        bottom_rows = a.bottom_rows;
-        top_tech = a.top_tech;
-        bottom_tech = a.bottom_tech;
-        size = a.size;
-        spacing = a.spacing;
-      };
-    }
+  found_then = set_die found Bottom (record found.bottom { percent = Some setup.bottom.percent });
+  read = rw (one_again 0 100 kinds.Range l setup.bottom.percent rest says (omega arith)) refl;
+  set = refl;
+  agrees = record {
+    frame = a.frame;
+    top_percent = a.top_percent;
+    bottom_percent = refl;
+    top_rows = a.top_rows;
+    bottom_rows = a.bottom_rows;
+    top_tech = a.top_tech;
+    bottom_tech = a.bottom_tech;
+    size = a.size;
+    spacing = a.spacing;
+  };
+}
 fields_again techs setup (Rows Bottom) at found l rest new a says = record {
-      found_then = set_die found Bottom (record found.bottom { rows = Some (rows_at at (rows_in setup.bottom)) });
-      read = rw (rows_again at l (rows_in setup.bottom) rest says) refl;
-      set = refl;
-      agrees = record {
-        frame = a.frame;
-        top_percent = a.top_percent;
-        bottom_percent = a.bottom_percent;
-        top_rows = a.top_rows;
-        bottom_rows = record { start_x = refl; start_y = refl; long = refl; high = refl; many = refl };
-        top_tech = a.top_tech;
-        bottom_tech = a.bottom_tech;
-        size = a.size;
-        spacing = a.spacing;
-      };
-    }
+  found_then = set_die found Bottom (record found.bottom { rows = Some (rows_at at (rows_in setup.bottom)) });
+  read = rw (rows_again at l (rows_in setup.bottom) rest says) refl;
+  set = refl;
+  agrees = record {
+    frame = a.frame;
+    top_percent = a.top_percent;
+    bottom_percent = a.bottom_percent;
+    top_rows = a.top_rows;
+    bottom_rows = record { start_x = refl; start_y = refl; long = refl; high = refl; many = refl };
+    top_tech = a.top_tech;
+    bottom_tech = a.bottom_tech;
+    size = a.size;
+    spacing = a.spacing;
+  };
+}
 fields_again techs setup (Tech Bottom) at found l rest new a says = record {
-      found_then = set_die found Bottom (record found.bottom { tech = Some setup.bottom.tech });
-      read = rw (tech_again techs l setup.bottom.tech.0 rest new says) refl;
-      set = refl;
-      agrees = record {
-        frame = a.frame;
-        top_percent = a.top_percent;
-        bottom_percent = a.bottom_percent;
-        top_rows = a.top_rows;
-        bottom_rows = a.bottom_rows;
-        top_tech = a.top_tech;
-        bottom_tech = refl;
-        size = a.size;
-        spacing = a.spacing;
-      };
-    }
+  found_then = set_die found Bottom (record found.bottom { tech = Some setup.bottom.tech });
+  read = rw (tech_again techs l setup.bottom.tech.0 rest new says) refl;
+  set = refl;
+  agrees = record {
+    frame = a.frame;
+    top_percent = a.top_percent;
+    bottom_percent = a.bottom_percent;
+    top_rows = a.top_rows;
+    bottom_rows = a.bottom_rows;
+    top_tech = a.top_tech;
+    bottom_tech = refl;
+    size = a.size;
+    spacing = a.spacing;
+  };
+}
 fields_again techs setup TerminalSize at found l rest new a says = record {
-      found_then = record found { size = Some (setup.terminal.size_x, setup.terminal.size_y) };
-      read = rw (sizes_again l (setup.terminal.size_x, setup.terminal.size_y) rest says) refl;
-      set = refl;
-      agrees = record {
-        frame = a.frame;
-        top_percent = a.top_percent;
-        bottom_percent = a.bottom_percent;
-        top_rows = a.top_rows;
-        bottom_rows = a.bottom_rows;
-        top_tech = a.top_tech;
-        bottom_tech = a.bottom_tech;
-        size = refl;
-        spacing = a.spacing;
-      };
-    }
+  found_then = record found { size = Some (setup.terminal.size_x, setup.terminal.size_y) };
+  read = rw (sizes_again l (setup.terminal.size_x, setup.terminal.size_y) rest says) refl;
+  set = refl;
+  agrees = record {
+    frame = a.frame;
+    top_percent = a.top_percent;
+    bottom_percent = a.bottom_percent;
+    top_rows = a.top_rows;
+    bottom_rows = a.bottom_rows;
+    top_tech = a.top_tech;
+    bottom_tech = a.bottom_tech;
+    size = refl;
+    spacing = a.spacing;
+  };
+}
 fields_again techs setup TerminalSpacing at found l rest new a says = record {
-      found_then = record found { spacing = Some setup.terminal.spacing };
-      read = rw (one_again 0 most_number kinds.Range l setup.terminal.spacing rest says (omega arith)) refl;
-      set = refl;
-      agrees = record {
-        frame = a.frame;
-        top_percent = a.top_percent;
-        bottom_percent = a.bottom_percent;
-        top_rows = a.top_rows;
-        bottom_rows = a.bottom_rows;
-        top_tech = a.top_tech;
-        bottom_tech = a.bottom_tech;
-        size = a.size;
-        spacing = refl;
-      };
-    }
+  found_then = record found { spacing = Some setup.terminal.spacing };
+  read = rw (one_again 0 most_number kinds.Range l setup.terminal.spacing rest says (omega arith)) refl;
+  set = refl;
+  agrees = record {
+    frame = a.frame;
+    top_percent = a.top_percent;
+    bottom_percent = a.bottom_percent;
+    top_rows = a.top_rows;
+    bottom_rows = a.bottom_rows;
+    top_tech = a.top_tech;
+    bottom_tech = a.bottom_tech;
+    size = a.size;
+    spacing = refl;
+  };
+}

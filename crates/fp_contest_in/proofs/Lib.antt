@@ -1,8 +1,13 @@
 pub mod Taken
-pub mod Techs
+pub mod TechsAgree
 pub mod Bits
 pub mod Names
 pub mod Fields
 pub mod FieldsAgain
 pub mod SectionsAgree
 pub mod Whole
+pub mod Growth
+pub mod Loops
+pub mod InRange
+pub mod SectionLoop
+pub mod Dies

@@ -15,9 +15,10 @@ use Rattle.fp_contest_in.specs.declared.section.Section.{Section}
 use Rattle.fp_contest_in.specs.declared.section.Section.TheVariants.{DieSize, MaxUtil, Rows, Tech, TerminalSize, TerminalSpacing}
 use Rattle.fp_contest_in.specs.declared.section.RowsFound.{RowsFound}
 use Rattle.fp_contest_in.specs.declared.section.Found.{Found}
-use Rattle.fp_contest_in.specs.Text.{TechText, Setup, tech_name_list}
+use Rattle.fp_contest_in.specs.declared.section.Setup.{Setup}
+use Rattle.fp_contest_in.specs.Text.{TechText, tech_name_list}
 use Rattle.fp_contest_in.specs.Grammar.{Keyword, Numbers, ranged, any_number, most_number, keyword_of, HasFields, NamesTech, IsSection, IsNewSection, section_number, is_in}
-use Rattle.fp_contest_in.specs.Statements.{section_of, new_section, fields_next, section_next, sections_next, has_section, bits, count_true, found_count, setup_of, no_frame, no_rows}
+use Rattle.fp_contest_in.specs.Statements.{section_of, new_section, fields_next, section_next, sections_next, has_section, none_found, bits, count_true, found_count, setup_of, no_frame, no_rows}
 use Rattle.fp_contest_in.proofs.Bits.{bit_at, with_bit, bit_at-with_bit, count_true-with_bit, has_bit, number_small, is_in-push}
 use Rattle.fp_contest_in.proofs.Names.{AreNew}
 use Rattle.fp_contest_in.proofs.Fields.{FrameFields, RowsFields, Kept, kept_is, Keeps, keeps_refl, keeps_then, FieldsTaken, fields_ok}
@@ -62,7 +63,6 @@ section_of-keyword TerminalSize = refl
 section_of-keyword TerminalSpacing = refl
 
 new_section-ok : (section : Option Section) (at : ℕ) (found : Found) (s : Section) → new_section section at found ≡ Ok s → (section ≡ Some s) × (has_section found s ≡ false)
-unfolding new_section
 new_section-ok None at found s e = absurd cc
 new_section-ok (Some section) at found s e =
     let g = cond_not (has_section found section) (Ok section) (record { at = at; kind = kinds.Twice }) s e in
@@ -93,7 +93,7 @@ pub record SectionTaken (techs : List TechText) (found : Found) (l : Left) (f : 
   pub same : r.bytes ≡ l.bytes
 
 pub section_ok : (techs : List TechText) (found : Found) (l : Left) (f : Found) (r : Left) → section_next (tech_name_list techs) found l ≡ Ok (f, r) → SectionTaken techs found l f r
-unfolding section_next new_section
+unfolding section_next
 section_ok techs found l f r e =
     let w = bind_ok (word_next l) _ _ e in
     let n = bind_ok (new_section (section_of w.0.0.text) w.0.0.at found) _ _ w.2 in
@@ -147,7 +147,7 @@ unfolding sections_next
 sections_ok techs zero before found l f r are e =
     let same = ok_is {A = Found × Left} (found, l) (f, r) e in
     subst (λ (p : Found × Left). SectionsTaken techs zero before found l p.0 p.1) same
-      (record { order = []; count_is = refl; each = refl; keeps = keeps_refl found; same = refl; more = omega arith })
+    (record { order = []; count_is = refl; each = refl; keeps = keeps_refl found; same = refl; more = omega arith })
 sections_ok techs (suc n) before found l f r are e =
     let b = bind_ok (section_next (tech_name_list techs) found l) _ _ e in
     let one = section_ok techs found l b.0.0 b.0.1 b.1 in
@@ -173,7 +173,7 @@ pub record SectionsRead (names : List (List ℕ)) (setup : Setup) (n : ℕ) (fou
 section_again : (techs : List TechText) (setup : Setup) (section : Section) (found : Found) (l : Left) (rest : List Word) → AreNew [] (tech_name_list techs) → Agrees setup found
     → has_section found section ≡ false → (is : IsSection techs setup section l.words rest)
     → (f : FieldsRead (tech_name_list techs) setup section is.1.0.at found (left_of l is.0) rest) → section_next (tech_name_list techs) found l ≡ Ok (f.found_then, left_of l rest)
-unfolding section_next new_section
+unfolding section_next
 section_again techs setup section found l rest new a fresh is f =
     let word = word_again l is.1.0 is.0 is.1.1 in
     rw (word, is.1.2, section_of-keyword section, fresh, f.read) refl
@@ -197,3 +197,15 @@ sections_again techs setup (section ∷ order) before found l rest new are a eac
       agrees = others.agrees;
       more = omega (arith, more, after);
     }
+
+-- nothing was read yet
+pub none_read : (section : Section) → has_section none_found section ≡ false
+none_read DieSize = refl
+none_read (MaxUtil Top) = refl
+none_read (MaxUtil Bottom) = refl
+none_read (Rows Top) = refl
+none_read (Rows Bottom) = refl
+none_read (Tech Top) = refl
+none_read (Tech Bottom) = refl
+none_read TerminalSize = refl
+none_read TerminalSpacing = refl

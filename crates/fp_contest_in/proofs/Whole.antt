@@ -12,15 +12,16 @@ use Rattle.fp_tech.specs.Plan.{rows_lie}
 use Rattle.fp_contest_in.specs.declared.section.Section.{Section}
 use Rattle.fp_contest_in.specs.declared.section.Section.TheVariants.{DieSize, MaxUtil, Rows, Tech, TerminalSize, TerminalSpacing}
 use Rattle.fp_contest_in.specs.declared.section.Found.{Found}
-use Rattle.fp_contest_in.specs.Text.{TechText, Setup, ProblemText, tech_name_list}
+use Rattle.fp_contest_in.specs.declared.section.Setup.{Setup}
+use Rattle.fp_contest_in.specs.Text.{TechText, ProblemText, tech_name_list}
 use Rattle.fp_contest_in.specs.Grammar.{Numbers, ranged, AreTechs, AreSections, IsNothing, IsProblem, IsNewTech, IsNewSection, section_number, is_in, Reads}
-use Rattle.fp_contest_in.specs.Statements.{techs_next, sections_next, none_found, setup_of, rows_of, setup_checked, nothing_next, front_next, problem_of, has_section, found_count, count_true, bits}
+use Rattle.fp_contest_in.specs.Statements.{techs_next, sections_next, none_found, setup_of, rows_of, setup_checked, nothing_next, front_next, tail_next, problem_next, problem_of, has_section, found_count, count_true, bits}
 use Rattle.fp_contest_in.proofs.Taken.{keyword_ok, keyword_again, number_ok, number_again}
-use Rattle.fp_contest_in.proofs.Techs.{techs_ok, techs_again}
+use Rattle.fp_contest_in.proofs.TechsAgree.{techs_ok, techs_again}
 use Rattle.fp_contest_in.proofs.Bits.{has_bit, number_small, all_set}
 use Rattle.fp_contest_in.proofs.Names.{AreNew}
 use Rattle.fp_contest_in.proofs.FieldsAgain.{Agrees, setup_is}
-use Rattle.fp_contest_in.proofs.SectionsAgree.{sections_ok, sections_again}
+use Rattle.fp_contest_in.proofs.SectionsAgree.{sections_ok, sections_again, none_read}
 
 -- technologies that stand one after the other have distinct names
 each_new : (before techs : List TechText) (words rest : List Word) → Each IsNewTech before techs words rest → AreNew (tech_name_list before) (tech_name_list techs)
@@ -52,12 +53,14 @@ nothing_ok keyword l n r e =
     let k = bind_ok (keyword_next keyword l) _ _ e in
     let named = keyword_ok keyword l k.0.0 k.0.1 k.1 in
     let count = number_ok 0 0 kinds.Limit k.0.1 n r k.2 in
-    let none : n ≡ 0 = omega (arith, count.0.2.at_most) in
-    (record {
-      after_keyword = k.0.1.words;
-      named = named.0;
-      count = (count.0.0, r.words, count.0.1, subst (λ (m : ℕ). Spells 0 0 count.0.0.text m) none count.0.2, refl);
-    }, count.1 ∙ named.1)
+    let none : n ≡ 0 = omega (arith, count.0.2.at_most) in (
+      record {
+        after_keyword = k.0.1.words;
+        named = named.0;
+        count = (count.0.0, r.words, count.0.1, subst (λ (m : ℕ). Spells 0 0 count.0.0.text m) none count.0.2, refl);
+      },
+      count.1 ∙ named.1,
+    )
 
 nothing_again : (keyword : List ℕ) (l : Left) (rest : List Word) → IsNothing keyword l.words rest → nothing_next keyword l ≡ Ok (0, left_of l rest)
 unfolding nothing_next
@@ -74,17 +77,6 @@ pub record FrontTaken (l : Left) (text : ProblemText) (r : Left) : Type 0 where
   pub techs : AreTechs text.techs l.words after_techs
   pub sections : AreSections text.techs text.setup after_techs r.words
   pub same : r.bytes ≡ l.bytes
-
-none_read : (section : Section) → has_section none_found section ≡ false
-none_read DieSize = refl
-none_read (MaxUtil Top) = refl
-none_read (MaxUtil Bottom) = refl
-none_read (Rows Top) = refl
-none_read (Rows Bottom) = refl
-none_read (Tech Top) = refl
-none_read (Tech Bottom) = refl
-none_read TerminalSize = refl
-none_read TerminalSpacing = refl
 
 none_agree : {setup : Setup} → Agrees setup none_found
 none_agree = record { frame = tt; top_percent = tt; bottom_percent = tt; top_rows = tt; bottom_rows = tt; top_tech = tt; bottom_tech = tt; size = tt; spacing = tt }
@@ -114,10 +106,10 @@ unfolding front_next count_true
 front_again l text after_techs rest techs sections =
     let t = techs_again l text.techs after_techs techs in
     let s = sections_again text.techs text.setup sections.order [] none_found (left_of l after_techs) rest
-      (each_new [] text.techs techs.after_count after_techs techs.items) (λ section. sym (none_read section)) none_agree sections.each in
+    (each_new [] text.techs techs.after_count after_techs techs.items) (λ section. sym (none_read section)) none_agree sections.each in
     let f = s.found_then in
     let nine : sections_next (tech_name_list text.techs) 9 none_found (left_of l after_techs) ≡ Ok (f, left_of l rest) =
-      subst (λ (n : ℕ). sections_next (tech_name_list text.techs) n none_found (left_of l after_techs) ≡ Ok (f, left_of l rest)) sections.nine s.read in
+    subst (λ (n : ℕ). sections_next (tech_name_list text.techs) n none_found (left_of l after_techs) ≡ Ok (f, left_of l rest)) sections.nine s.read in
     let count : found_count f ≡ 9 = omega (arith, s.more, sections.nine) in
     let all : (section : Section) → has_section f section ≡ true = λ section. has_bit f section ∙ all_set (bits f) (section_number section) count (number_small f section) in
     let setup = setup_is text.setup f all s.agrees in
@@ -128,33 +120,44 @@ front_again l text after_techs rest techs sections =
 
 -- ---- the file
 
+tail_ok : (l r : Left) → tail_next l ≡ Ok r → (mid : List Word) × IsNothing (codes "NumInstances") l.words mid × IsNothing (codes "NumNets") mid []
+unfolding tail_next
+tail_ok l r e =
+    let i = bind_ok (nothing_next (codes "NumInstances") l) _ _ e in
+    let n = bind_ok (nothing_next (codes "NumNets") i.0.1) _ _ i.2 in
+    let instances = nothing_ok (codes "NumInstances") l i.0.0 i.0.1 i.1 in
+    let nets = nothing_ok (codes "NumNets") i.0.1 n.0.0 n.0.1 n.1 in
+    let no_more = end_ok n.0.1 r n.2 in
+    (i.0.1.words, instances.0, subst (λ (ws : List Word). IsNothing (codes "NumNets") i.0.1.words ws) no_more.0 nets.0)
+
+tail_again : (l : Left) (mid : List Word) → IsNothing (codes "NumInstances") l.words mid → IsNothing (codes "NumNets") mid [] → tail_next l ≡ Ok (left_of l [])
+unfolding tail_next
+tail_again l mid instances nets =
+    let i = nothing_again (codes "NumInstances") l mid instances in
+    let n = nothing_again (codes "NumNets") (left_of l mid) [] nets in
+    rw (i, n) (end_again (left_of l []) refl)
+
 pub read_is_in : (bytes : List ℕ) (text : ProblemText) → problem_of bytes ≡ Ok text → Reads bytes text
-unfolding problem_of
+unfolding problem_next
 read_is_in bytes text e =
     let f = bind_ok (front_next (whole bytes)) _ _ e in
-    let i = bind_ok (nothing_next (codes "NumInstances") f.0.1) _ _ f.2 in
-    let n = bind_ok (nothing_next (codes "NumNets") i.0.1) _ _ i.2 in
-    let end = bind_ok (end_next n.0.1) _ _ n.2 in
+    let t = bind_ok (tail_next f.0.1) _ _ f.2 in
     let front = front_ok (whole bytes) f.0.0 f.0.1 f.1 in
-    let instances = nothing_ok (codes "NumInstances") f.0.1 i.0.0 i.0.1 i.1 in
-    let nets = nothing_ok (codes "NumNets") i.0.1 n.0.0 n.0.1 n.1 in
-    let no_more = end_ok n.0.1 end.0 end.1 in
-    let same = ok_is f.0.0 text end.2 in
+    let tail = tail_ok f.0.1 t.0 t.1 in
+    let same = ok_is f.0.0 text t.2 in
     subst (λ (t : ProblemText). IsProblem t (words_of bytes)) same (record {
       after_techs = front.after_techs;
       after_sections = f.0.1.words;
-      after_instances = i.0.1.words;
+      after_instances = tail.0;
       techs = front.techs;
       sections = front.sections;
-      instances = instances.0;
-      nets = subst (λ (ws : List Word). IsNothing (codes "NumNets") i.0.1.words ws) no_more.0 nets.0;
+      instances = tail.1;
+      nets = tail.2;
     })
 
 pub is_in_read : (bytes : List ℕ) (text : ProblemText) → Reads bytes text → problem_of bytes ≡ Ok text
-unfolding problem_of
+unfolding problem_next
 is_in_read bytes text p =
     let front = front_again (whole bytes) text p.after_techs p.after_sections p.techs p.sections in
-    let instances = nothing_again (codes "NumInstances") (left_of (whole bytes) p.after_sections) p.after_instances p.instances in
-    let nets = nothing_again (codes "NumNets") (left_of (whole bytes) p.after_instances) [] p.nets in
-    let end = end_again (left_of (whole bytes) []) refl in
-    rw (front, instances, nets, end) refl
+    let tail = tail_again (left_of (whole bytes) p.after_sections) p.after_instances p.instances p.nets in
+    rw (front, tail) refl

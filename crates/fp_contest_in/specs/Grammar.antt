@@ -12,7 +12,8 @@ use Rattle.fp_tech.specs.Book.{Pin, is_among}
 use Rattle.fp_tech.specs.Plan.{rows_lie}
 use Rattle.fp_contest_in.specs.declared.section.Section.{Section}
 use Rattle.fp_contest_in.specs.declared.section.Section.TheVariants.{DieSize, MaxUtil, Rows, Tech, TerminalSize, TerminalSpacing}
-use Rattle.fp_contest_in.specs.Text.{LibText, TechText, Setup, ProblemText, pin_name_list, lib_name_list, tech_name_list}
+use Rattle.fp_contest_in.specs.declared.section.Setup.{Setup}
+use Rattle.fp_contest_in.specs.Text.{LibText, TechText, ProblemText, pin_name_list, lib_name_list, tech_name_list}
 
 -- the greatest number that is read
 abbrev pub most_number : ℕ

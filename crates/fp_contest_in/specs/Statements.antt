@@ -19,7 +19,8 @@ use Rattle.fp_contest_in.specs.declared.section.Section.TheVariants.{DieSize, Ma
 use Rattle.fp_contest_in.specs.declared.section.RowsFound.{RowsFound}
 use Rattle.fp_contest_in.specs.declared.section.DieFound.{DieFound}
 use Rattle.fp_contest_in.specs.declared.section.Found.{Found}
-use Rattle.fp_contest_in.specs.Text.{LibText, TechText, Setup, ProblemText, pin_name_list, lib_name_list, tech_name_list, plan_of}
+use Rattle.fp_contest_in.specs.declared.section.Setup.{Setup}
+use Rattle.fp_contest_in.specs.Text.{LibText, TechText, ProblemText, pin_name_list, lib_name_list, tech_name_list, plan_of}
 use Rattle.fp_contest_in.specs.Grammar.{keyword_of, most_number}
 
 -- a name that is not among those before it
@@ -169,7 +170,7 @@ fields_next names TerminalSpacing at found l = do
   Ok (record found { spacing = Some spacing.0 }, spacing.1)
 
 -- a keyword that begins a section which was not read before
-unfoldable pub new_section : Option Section → ℕ → Found → Result Section Fault
+abbrev pub new_section : Option Section → ℕ → Found → Result Section Fault
 new_section None at found = fault at kinds.Word
 new_section (Some section) at found = if has_section found section then fault at kinds.Twice else Ok section
 
@@ -201,7 +202,7 @@ die_spec die = record {
   start_y = (rows_of die).start_y;
   length = (rows_of die).length;
   height = (rows_of die).height;
-  repeat = (rows_of die).repeat
+  repeat = (rows_of die).repeat;
 }
 
 abbrev pub no_frame : Frame
@@ -212,15 +213,15 @@ setup_of found = record {
   frame = unwrap_or found.frame no_frame;
   top = die_spec found.top;
   bottom = die_spec found.bottom;
-  terminal = record { size_x = (unwrap_or found.size (0, 0)).0; size_y = (unwrap_or found.size (0, 0)).1; spacing = unwrap_or found.spacing 0 }
+  terminal = record { size_x = (unwrap_or found.size (0, 0)).0; size_y = (unwrap_or found.size (0, 0)).1; spacing = unwrap_or found.spacing 0 };
 }
 
 -- the setup where both dies' rows lie in the frame; else the first that does not, at its rows' keyword
 unfoldable pub setup_checked : Found → Left → Read Setup
 setup_checked found l =
     if rows_lie (setup_of found).frame (setup_of found).top
-      then (if rows_lie (setup_of found).frame (setup_of found).bottom then Ok (setup_of found, l) else fault (rows_of found.bottom).at kinds.Rows)
-      else fault (rows_of found.top).at kinds.Rows
+    then (if rows_lie (setup_of found).frame (setup_of found).bottom then Ok (setup_of found, l) else fault (rows_of found.bottom).at kinds.Rows)
+    else fault (rows_of found.top).at kinds.Rows
 
 -- a keyword with a count that has to be 0
 unfoldable pub nothing_next : List ℕ → Left → Read ℕ
@@ -236,14 +237,23 @@ front_next l = do
   setup ← setup_checked found.0 found.1
   Ok (record { techs = techs.0; setup = setup.0 }, setup.1)
 
--- the whole file: its problem, or its first fault
-unfoldable pub problem_of : List ℕ → Result ProblemText Fault
-problem_of bytes = do
-  front ← front_next (whole bytes)
-  instances ← nothing_next (codes "NumInstances") front.1
+-- no instances, no nets, and the end
+unfoldable pub tail_next : Left → Result Left Fault
+tail_next l = do
+  instances ← nothing_next (codes "NumInstances") l
   nets ← nothing_next (codes "NumNets") instances.1
-  end ← end_next nets.1
+  end_next nets.1
+
+-- the whole file from its first token on
+unfoldable pub problem_next : Left → Result ProblemText Fault
+problem_next l = do
+  front ← front_next l
+  end ← tail_next front.1
   Ok front.0
+
+-- the problem of a whole file, or its first fault
+abbrev pub problem_of : List ℕ → Result ProblemText Fault
+problem_of bytes = problem_next (whole bytes)
 
 -- what a reader of the file returned: the dies of the problem that is read, or the first fault, or want of memory
 abbrev pub GivesPlan : Result Plan TextFault → Result ProblemText Fault → Type 0

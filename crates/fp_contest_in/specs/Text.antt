@@ -1,8 +1,6 @@
 -- A problem as plain lists, as the input file says it, and the dies that it describes.
 use Rattle.std.specs.Prelude.{ℕ, List, [], ◌∷◌, length, map}
-use Rattle.fp_tech.specs.declared.dies.Frame.{Frame}
-use Rattle.fp_tech.specs.declared.dies.DieSpec.{DieSpec}
-use Rattle.fp_tech.specs.declared.dies.TermSpec.{TermSpec}
+use Rattle.fp_contest_in.specs.declared.section.Setup.{Setup}
 use Rattle.fp_tech.specs.Book.{Pin, Book, no_techs, id_for, with_tech, with_lib, with_pin}
 use Rattle.fp_tech.specs.Plan.{Plan}
 
@@ -17,13 +15,6 @@ pub record TechText : Type 0 where
   pub name : List ℕ
   pub libs : List LibText
 
--- what the nine sections say; a die's technology is given by its number in file order
-pub record Setup : Type 0 where
-  pub frame : Frame
-  pub top : DieSpec
-  pub bottom : DieSpec
-  pub terminal : TermSpec
-
 pub record ProblemText : Type 0 where
   pub techs : List TechText
   pub setup : Setup
@@ -37,26 +28,28 @@ lib_name_list libs = map (λ lib. lib.name) libs
 abbrev pub tech_name_list : List TechText → List (List ℕ)
 tech_name_list techs = map (λ tech. tech.name) techs
 
--- a book with these pins added to a library cell, one after the other
-unfoldable pub with_pins : ℕ → ℕ → Book → List Pin → Book
-with_pins tech id book [] = book
-with_pins tech id book (pin ∷ pins) = with_pins tech id (with_pin book tech id pin) pins
+-- a value that grew by each item, one after the other
+unfoldable pub grown : {V A : Type 0} → (V → A → V) → V → List A → V
+grown grow old [] = old
+grown grow old (x ∷ xs) = grown grow (grow old x) xs
+
+-- a book with these pins added to a library cell
+abbrev pub with_pins : ℕ → ℕ → Book → List Pin → Book
+with_pins tech id book pins = grown (λ b pin. with_pin b tech id pin) book pins
 
 -- with a library cell and its pins added to a technology
-unfoldable pub with_lib_text : ℕ → Book → LibText → Book
+abbrev pub with_lib_text : ℕ → Book → LibText → Book
 with_lib_text tech book lib = with_pins tech (id_for book lib.name) (with_lib book tech lib.name lib.width lib.height) lib.pins
 
-unfoldable pub with_lib_texts : ℕ → Book → List LibText → Book
-with_lib_texts tech book [] = book
-with_lib_texts tech book (lib ∷ libs) = with_lib_texts tech (with_lib_text tech book lib) libs
+abbrev pub with_lib_texts : ℕ → Book → List LibText → Book
+with_lib_texts tech book libs = grown (with_lib_text tech) book libs
 
 -- with a technology and its library cells
-unfoldable pub with_tech_text : Book → TechText → Book
+abbrev pub with_tech_text : Book → TechText → Book
 with_tech_text book tech = with_lib_texts (length book.techs) (with_tech book tech.name) tech.libs
 
-unfoldable pub with_tech_texts : Book → List TechText → Book
-with_tech_texts book [] = book
-with_tech_texts book (tech ∷ techs) = with_tech_texts (with_tech_text book tech) techs
+abbrev pub with_tech_texts : Book → List TechText → Book
+with_tech_texts book techs = grown with_tech_text book techs
 
 -- the dies that a problem describes
 abbrev pub plan_of : ProblemText → Plan
@@ -65,5 +58,5 @@ plan_of text = record {
   frame = text.setup.frame;
   top = text.setup.top;
   bottom = text.setup.bottom;
-  terminal = text.setup.terminal
+  terminal = text.setup.terminal;
 }

@@ -1,7 +1,12 @@
 //! The reader of contest input files.
 #![tactic(auto)]
 
+mod reading;
 mod section;
 mod sections;
+mod techs;
 
-pub use section::Section;
+pub use reading::read_problem;
+
+#[cfg(test)]
+mod tests;

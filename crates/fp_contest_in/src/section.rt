@@ -1,10 +1,10 @@
 //! The nine sections between the technologies and the instances.
 
 ghost use Rattle.std.specs.Prelude.{◌≡◌, IsTrue, Option, Some, None};
-ghost use Rattle.fp_contest_in.specs.Statements.{section_of, has_section, die_found, set_die};
+ghost use Rattle.fp_contest_in.specs.Statements.{section_of, has_section, die_found, set_die, die_spec, setup_of};
 
 use fp_base::{Die, TechId};
-use fp_tech::Frame;
+use fp_tech::{DieSpec, Frame, TermSpec};
 
 /// One of the nine sections, which an input has once each, in any order.
 #[derive(Clone, Copy, Debug, PartialEq, Eq)]
@@ -36,6 +36,34 @@ pub struct DieFound {
     pub tech: Option<TechId>,
 }
 
+impl DieFound {
+    ghost use Rattle.fp_contest_in.specs.Ranges.{IsCompleteDie};
+
+    /// The die, once its three sections were read.
+    fn spec(&self) -> DieSpec
+        requires { IsCompleteDie self.now }
+        ensures { result ≡ die_spec self.now }
+    {
+        let rows = self.rows.unwrap();
+        DieSpec {
+            percent: self.percent.unwrap(),
+            tech: self.tech.unwrap(),
+            start_x: rows.start_x,
+            start_y: rows.start_y,
+            length: rows.length,
+            height: rows.height,
+            repeat: rows.repeat,
+        }
+    }
+
+    /// No section was read.
+    pub const NONE: DieFound = DieFound {
+        percent: None,
+        rows: None,
+        tech: None,
+    };
+}
+
 /// What the sections that were read said.
 #[derive(Clone, Copy, Debug, PartialEq, Eq)]
 pub struct Found {
@@ -44,6 +72,15 @@ pub struct Found {
     pub bottom: DieFound,
     pub size: Option<(u32, u32)>,
     pub spacing: Option<u32>,
+}
+
+/// What the nine sections say together. A die's technology is given by its number in file order.
+#[derive(Clone, Copy, Debug, PartialEq, Eq)]
+pub struct Setup {
+    pub frame: Frame,
+    pub top: DieSpec,
+    pub bottom: DieSpec,
+    pub terminal: TermSpec,
 }
 
 /// The section that a keyword begins, if any.
@@ -75,6 +112,17 @@ pub fn section_of(word: &[u8]) -> Option<Section>
 }
 
 impl Found {
+    ghost use Rattle.fp_contest_in.specs.Ranges.{IsComplete};
+
+    /// No section was read.
+    pub const NONE: Found = Found {
+        frame: None,
+        top: DieFound::NONE,
+        bottom: DieFound::NONE,
+        size: None,
+        spacing: None,
+    };
+
     /// What the sections of a die that were read said.
     pub fn die(&self, die: Die) -> DieFound
         ensures { result ≡ die_found self.now die }
@@ -91,7 +139,10 @@ impl Found {
     {
         match die {
             Die::Top => Found { top: found, ..self },
-            Die::Bottom => Found { bottom: found, ..self },
+            Die::Bottom => Found {
+                bottom: found,
+                ..self
+            },
         }
     }
 
@@ -106,6 +157,32 @@ impl Found {
             Section::Tech(die) => self.die(die).tech.is_some(),
             Section::TerminalSize => self.size.is_some(),
             Section::TerminalSpacing => self.spacing.is_some(),
+        }
+    }
+
+    /// The terminal, once its two sections were read.
+    fn terminal(&self) -> TermSpec
+        requires { IsComplete self.now }
+        ensures { result ≡ (setup_of self.now).terminal }
+    {
+        let (size_x, size_y) = self.size.unwrap();
+        TermSpec {
+            size_x,
+            size_y,
+            spacing: self.spacing.unwrap(),
+        }
+    }
+
+    /// What the sections say together, once all nine were read.
+    pub fn setup(&self) -> Setup
+        requires { IsComplete self.now }
+        ensures { result ≡ setup_of self.now }
+    {
+        Setup {
+            frame: self.frame.unwrap(),
+            top: self.top.spec(),
+            bottom: self.bottom.spec(),
+            terminal: self.terminal(),
         }
     }
 }

@@ -1,13 +1,19 @@
 //! Reading the sections.
 
-ghost use Rattle.std.specs.Prelude.{◌≡◌, ◌≤◌, ◌<◌, ◌+◌, ◌^◌, IfOk, map};
+ghost use Rattle.std.specs.Prelude.{◌≡◌, ◌≤◌, ◌<◌, ◌+◌, ◌^◌, IfOk, length};
 ghost use Rattle.fp_text.specs.Reading.{Gives, number_next};
+ghost use Rattle.fp_tech.specs.Book.{tech_names};
 ghost use Rattle.fp_tech.specs.Plan.{IsFrame};
-ghost use Rattle.fp_contest_in.specs.Statements.{frame_next, sizes_next, rows_next};
+ghost use Rattle.fp_contest_in.specs.Statements.{frame_next, sizes_next, rows_next, tech_name_next, fields_next, section_next, sections_next, none_found};
+ghost use Rattle.fp_contest_in.specs.Ranges.{AreRows, AreInRange, IsComplete};
 
-use crate::section::{DieFound, Found, RowsFound, Section};
-use fp_tech::Frame;
+use crate::section::{DieFound, Found, RowsFound, Section, section_of};
+use fp_base::TechId;
+use fp_tech::{Frame, TechBook};
 use fp_text::{Kind, TextFault, Tokens};
+
+/// The number of sections.
+const SECTIONS: u32 = 9;
 
 /// The greatest number that is read.
 pub const GREATEST: u32 = 1 << 30;
@@ -47,6 +53,7 @@ fn frame(tokens: &mut Tokens<'_>) -> Result<Frame, TextFault>
 #[tactic(auto, unfolding(crate::specs::Statements::rows_next))]
 fn rows(at: u64, tokens: &mut Tokens<'_>) -> Result<RowsFound, TextFault>
     ensures gives { Gives (λ r. r) result tokens.new (rows_next at tokens.old) }
+    ensures range { IfOk result AreRows }
 {
     let start_x = number(tokens, 0, GREATEST, Kind::Range)?;
     let start_y = number(tokens, 0, GREATEST, Kind::Range)?;
@@ -60,4 +67,115 @@ fn rows(at: u64, tokens: &mut Tokens<'_>) -> Result<RowsFound, TextFault>
         height,
         repeat,
     })
+}
+
+/// A die's technology by its name, `Unknown` where no technology has it.
+#[tactic(auto, unfolding(crate::specs::Statements::tech_name_next))]
+fn tech(book: &TechBook, tokens: &mut Tokens<'_>) -> Result<TechId, TextFault>
+    ensures gives { Gives (λ t. t) result tokens.new (tech_name_next (tech_names book.now) tokens.old) }
+    ensures there { IfOk result (λ t. t.0 < length book.now.techs) }
+{
+    let name = tokens.name()?;
+    match book.tech_named(name.text) {
+        Some(tech) => Ok(tech),
+        None => Err(TextFault::Wrong {
+            at: name.at,
+            kind: Kind::Unknown,
+        }),
+    }
+}
+
+/// A section's fields, put beside what the sections before it said.
+#[tactic(auto, unfolding(crate::specs::Statements::fields_next))]
+fn fields(
+    book: &TechBook,
+    section: Section,
+    at: u64,
+    found: Found,
+    tokens: &mut Tokens<'_>,
+) -> Result<Found, TextFault>
+    requires { AreInRange (length book.now.techs) found }
+    ensures gives { Gives (λ f. f) result tokens.new (fields_next (tech_names book.now) section at found tokens.old) }
+    ensures range { IfOk result (AreInRange (length book.now.techs)) }
+{
+    match section {
+        Section::DieSize => {
+            let frame = Some(frame(tokens)?);
+            Ok(Found { frame, ..found })
+        }
+        Section::MaxUtil(die) => {
+            let percent = Some(number(tokens, 0, 100, Kind::Range)?);
+            Ok(found.with_die(
+                die,
+                DieFound {
+                    percent,
+                    ..found.die(die)
+                },
+            ))
+        }
+        Section::Rows(die) => {
+            let rows = Some(rows(at, tokens)?);
+            Ok(found.with_die(
+                die,
+                DieFound {
+                    rows,
+                    ..found.die(die)
+                },
+            ))
+        }
+        Section::Tech(die) => {
+            let tech = Some(tech(book, tokens)?);
+            Ok(found.with_die(
+                die,
+                DieFound {
+                    tech,
+                    ..found.die(die)
+                },
+            ))
+        }
+        Section::TerminalSize => {
+            let size = Some(sizes(tokens)?);
+            Ok(Found { size, ..found })
+        }
+        Section::TerminalSpacing => {
+            let spacing = Some(number(tokens, 0, GREATEST, Kind::Range)?);
+            Ok(Found { spacing, ..found })
+        }
+    }
+}
+
+/// The next section, whose keyword begins none that was read before.
+#[tactic(auto, unfolding(crate::specs::Statements::section_next))]
+fn next_section(book: &TechBook, found: Found, tokens: &mut Tokens<'_>) -> Result<Found, TextFault>
+    requires { AreInRange (length book.now.techs) found }
+    ensures gives { Gives (λ f. f) result tokens.new (section_next (tech_names book.now) found tokens.old) }
+    ensures range { IfOk result (AreInRange (length book.now.techs)) }
+{
+    let word = tokens.word()?;
+    let Some(section) = section_of(word.text) else {
+        return Err(TextFault::Wrong {
+            at: word.at,
+            kind: Kind::Word,
+        });
+    };
+    if found.has(section) {
+        return Err(TextFault::Wrong {
+            at: word.at,
+            kind: Kind::Twice,
+        });
+    }
+    fields(book, section, word.at, found, tokens)
+}
+
+/// The nine sections, in any order.
+pub fn sections(book: &TechBook, tokens: &mut Tokens<'_>) -> Result<Found, TextFault>
+    ensures gives { Gives (λ f. f) result tokens.new (sections_next (tech_names book.now) 9 none_found tokens.old) }
+    ensures range { IfOk result (AreInRange (length book.now.techs)) }
+    ensures complete { IfOk result IsComplete }
+{
+    let mut found = Found::NONE;
+    for _ in 0..SECTIONS {
+        found = next_section(book, found, tokens)?;
+    }
+    Ok(found)
 }

@@ -16,7 +16,7 @@ use Rattle.fp_base.specs.declared.ids.Point.{Point}
 use Rattle.fp_tech.specs.declared.fault.BuildFault.{BuildFault}
 use Rattle.fp_tech.specs.declared.fault.BuildFault.TheVariants.{Twice, Unknown, Limit}
 use Rattle.fp_tech.specs.Book.{Lib, Pin, place_of, pin_names, size_of, offset_of, refusal, IsBook}
-use Rattle.fp_tech.specs.BookLaws.{distinct_names}
+use Rattle.fp_tech.specs.BookLaws.{distinct_names, slice_get-front}
 use Rattle.fp_tech.specs.Plan.{Plan, IsPlan}
 use Rattle.fp_netlist.specs.declared.problem.Conn.{Conn}
 use Rattle.fp_netlist.specs.declared.kept.KeptCell.{KeptCell}
@@ -124,11 +124,6 @@ nothing_kept plan names nets cells conns is_plan is_book no_names no_kept no_net
     }
 
 -- a cell that was there keeps its library cell
-slice_get-front : {A : Type 0} (xs : List A) (x : A) (k : ℕ) → k < length xs → slice_get (xs ++ x ∷ []) k ≡ slice_get xs k
-slice_get-front [] x k below = absurd (omega arith)
-slice_get-front (y ∷ ys) x zero below = refl
-slice_get-front (y ∷ ys) x (suc k) below = slice_get-front ys x k (omega arith)
-
 lib_of-with_inst : (p : Netlist) (name : List ℕ) (lib k : ℕ) → k < length p.cells → lib_of (with_inst p name lib) k ≡ lib_of p k
 lib_of-with_inst p name lib k below = ap (λ o. unwrap_or (option_map (λ (c : Cell). c.lib) o) 0) (slice_get-front p.cells (record { name = name; lib = lib }) k below)
 

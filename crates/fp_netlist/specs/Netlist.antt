@@ -70,7 +70,7 @@ conn_for p net cell pin = record {
   cell = record { 0 = cell };
   net = record { 0 = net };
   top_pin = unwrap_or (pin_place p cell pin Top) 0;
-  bottom_pin = unwrap_or (pin_place p cell pin Bottom) 0
+  bottom_pin = unwrap_or (pin_place p cell pin Bottom) 0;
 }
 
 abbrev pub with_conn : Netlist → ℕ → ℕ → List ℕ → Netlist

@@ -1,11 +1,11 @@
 -- What adding makes of a book and of its kept lists, and that both stay within the limits.
-use Rattle.std.proofs.Common.{◌≡◌, ◌==◌, ℕ, zero, suc, ◌+◌, ◌-◌, ◌*◌, ◌<◌, ◌≤◌, ◌^◌, Bool, true, false, cond, ◌||◌, List, [], ◌∷◌, ◌++◌, length, map, take, Option, Some, None, is_some, IsTrue, if◌then◌else◌, get_or, refl, sym, ap, subst, ◌∙◌, arith, Result, Ok, Err}
+use Rattle.std.proofs.Common.{◌≡◌, ◌==◌, ℕ, zero, suc, ◌+◌, ◌<◌, ◌≤◌, ◌^◌, Bool, true, false, ◌||◌, List, [], ◌∷◌, ◌++◌, length, map, take, Option, Some, None, is_some, IsTrue, if◌then◌else◌, get_or, refl, sym, ap, subst, ◌∙◌, arith, Result, Ok, Err}
 use Rattle.std.specs.Prelude.{nat_eq, nat_le, slice_get, slice_set, find, unwrap_or, All, sum_by}
 use Rattle.std.specs.List.{IsDistinct, list_any, position_or_len}
-use Rattle.std.specs.Option.{option_map, option_and_then}
+use Rattle.std.specs.Option.{option_map}
 use Rattle.std.specs.Str.{bytes_eq}
-use Rattle.std.proofs.lemmas.Cmp.{nat_list_eq_equiv, nat_eq_equiv}
-use Rattle.std.proofs.lemmas.List.{map-append, map-id, length-append, length-map, length-set, set-get_or}
+use Rattle.std.proofs.lemmas.Cmp.{nat_eq_equiv}
+use Rattle.std.proofs.lemmas.List.{map-append, length-append, length-map, length-set, set-get_or}
 use Rattle.std.proofs.lemmas.List.Sums.{sum_by-append, sum_by-cons}
 use Rattle.std.proofs.lemmas.List.Folds.{find_at}
 use Rattle.std.proofs.lemmas.List.Elements.{All-nil, All-cons, All-head, All-tail, All-push, All-set}
@@ -15,11 +15,11 @@ use Rattle.std.proofs.lemmas.Map.Keys.{IsDistinct-push}
 use Rattle.std.proofs.Math.Seq.{take-append_seam, take-length}
 use Rattle.fp_tech.specs.declared.fault.BuildFault.{BuildFault}
 use Rattle.fp_tech.specs.declared.fault.BuildFault.TheVariants.{Twice, Unknown, Limit, Memory}
-use Rattle.fp_tech.specs.Book.{Pin, Lib, Tech, Book, place_of, is_among, tech_names, pin_names, libs_of, lib_in, has, has_name, id_for, changed_at, with_name, with_tech, with_lib, with_pin, more_libs, more_pins, pins_added, pins_in, refusal, pins_refusal, pin_refusal, Adds, IsLib, IsTech, IsBook}
-use Rattle.fp_tech.specs.BookLaws.{place_within, length-changed_at, map-changed_at, slice_get_some, libs_at, libs_within, number_free, distinct_names}
+use Rattle.fp_tech.specs.Book.{Pin, Lib, Tech, Book, place_of, is_among, tech_names, pin_names, libs_of, lib_in, has, has_name, id_for, changed_at, with_name, with_tech, with_lib, with_pin, more_libs, more_pins, pins_added, refusal, pins_refusal, pin_refusal, Adds, IsLib, IsTech, IsBook}
+use Rattle.fp_tech.specs.BookLaws.{place_within, length-changed_at, map-changed_at, libs_at, number_free, distinct_names}
 use Rattle.fp_tech.specs.KeptBook.{techs_of, book_of, IsKeptBook, id_of, pins_at}
 use Rattle.fp_tech.proofs.LibraryLemmas.{absent_at, touched, found_id}
-use Rattle.fp_tech.proofs.BookLemmas.{length-techs_of, names-techs_of, libs-techs_of, distinct-nil, IsSeen, seen, has_in_range}
+use Rattle.fp_tech.proofs.BookLemmas.{distinct-nil, IsSeen, seen, has_in_range}
 
 -- adding a technology
 pub with_tech_is_book : (book : Book) (name : List ℕ) → IsBook book → length book.techs < 16 → place_of name (tech_names book) ≡ None → IsBook (with_tech book name)
@@ -56,8 +56,10 @@ tech_added names techs libraries book name new_techs new_libraries kept view roo
   where
     s : IsSeen names techs libraries book
     s = seen names techs libraries book kept view
+
     as_added : book_of names (techs ++ name ∷ []) (libraries ++ [] ∷ []) ≡ with_tech book name
     as_added = ap (λ ts. record { names = names; techs = ts }) (techs_of-push techs libraries name kept.as_many) ∙ ap (λ b. with_tech b name) view
+
     grown : IsKeptBook names (techs ++ name ∷ []) (libraries ++ [] ∷ [])
     grown = record {
       as_many = omega (arith, kept.as_many, length-append techs (name ∷ []), length-append libraries ([] ∷ []));
@@ -160,17 +162,24 @@ with_lib_is_book book t name width height is below some_width is_width some_heig
   few_techs = omega (arith, is.few_techs, length-changed_at t (more_libs lib) book.techs);
   techs_apart = subst (IsDistinct bytes_eq) (sym (map-changed_at (λ (x : Tech). x.name) t (more_libs lib) (λ x. refl) book.techs)) is.techs_apart;
   names_apart = with_name_apart book.names name is.names_apart;
-  names_used = omega (arith, is.names_used, (more_names book.names name).1,
-                      sum-changed_at (λ (x : Tech). length x.libs) t (more_libs lib) 1 (λ x. length-append x.libs (lib ∷ [])) book.techs below);
+  names_used = omega (
+    arith,
+    is.names_used,
+    (more_names book.names name).1,
+    sum-changed_at (λ (x : Tech). length x.libs) t (more_libs lib) 1 (λ x. length-append x.libs (lib ∷ [])) book.techs below,
+  );
   techs = All-changed_at (IsTech n) (IsTech m) t (more_libs lib) book.techs is.techs (all_more_named n m (more_names book.names name).0) grown;
 }
   where
     n : ℕ
     n = length book.names
+
     m : ℕ
     m = length (with_name book.names name)
+
     lib : Lib
     lib = record { id = id_for book name; width = width; height = height; pins = [] }
+
     is_lib : IsLib (length (with_name book.names name)) (record { id = id_for book name; width = width; height = height; pins = [] })
     is_lib = record {
       named = id_named book.names name;
@@ -182,6 +191,7 @@ with_lib_is_book book t name width height is below some_width is_width some_heig
       pins_apart = distinct-nil bytes_eq;
       offsets = All-nil (λ (pin : Pin). (pin.x ≤ 2 ^ 30) × (pin.y ≤ 2 ^ 30));
     }
+
     grown : (x : Tech) → slice_get book.techs t ≡ Some x → IsTech (length book.names) x
         → IsTech (length (with_name book.names name)) (more_libs (record { id = id_for book name; width = width; height = height; pins = [] }) x)
     grown x at x_is =
@@ -206,19 +216,22 @@ pub lib_added : (names techs : List (List ℕ)) (libraries : List (List Lib)) (b
 lib_added names techs libraries book t name width height d new_names lib library kept view below some_width is_width some_height is_height room free named made grown =
     subst (λ ns. IsKeptAs ns techs (slice_set libraries t library) (with_lib book t name width height)) (sym named)
     (subst (λ l. IsKeptAs (with_name names name) techs (slice_set libraries t l) (with_lib book t name width height)) (sym (grown ∙ ap (λ x. get_or libraries t d ++ x ∷ []) made))
-     (record { kept = is_kept; view = as_added }))
+    (record { kept = is_kept; view = as_added }))
   where
     s : IsSeen names techs libraries book
     s = seen names techs libraries book kept view
+
     cell : Lib
     cell = record { id = id_for book name; width = width; height = height; pins = [] }
+
     as_added : book_of (with_name names name) techs (slice_set libraries t (get_or libraries t d ++ record { id = id_for book name; width = width; height = height; pins = [] } ∷ []))
         ≡ with_lib book t name width height
     as_added =
         ap (λ ts. record { names = with_name names name; techs = ts })
         (changed_kept (more_libs (record { id = id_for book name; width = width; height = height; pins = [] })) (λ libs. libs ++ record { id = id_for book name; width = width; height = height; pins = [] } ∷ []) (λ n libs. refl)
-         techs libraries t d (omega (arith, s.many)) kept.as_many)
+        techs libraries t d (omega (arith, s.many)) kept.as_many)
         ∙ ap (λ (b : Book). record { names = with_name b.names name; techs = changed_at t (more_libs (record { id = id_for book name; width = width; height = height; pins = [] })) b.techs }) view
+
     is_kept : IsKeptBook (with_name names name) techs (slice_set libraries t (get_or libraries t d ++ record { id = id_for book name; width = width; height = height; pins = [] } ∷ []))
     is_kept = record {
       as_many = kept.as_many ∙ sym (length-set libraries t (get_or libraries t d ++ record { id = id_for book name; width = width; height = height; pins = [] } ∷ []));
@@ -270,21 +283,23 @@ with_pin_is_book book t id pin old is found room new small_x small_y = record {
   where
     n : ℕ
     n = length book.names
+
     used : length book.names ≤ sum_by (λ (x : Tech). length x.libs) (changed_at t (pins_added id pin) book.techs)
     used = subst (λ k. length book.names ≤ k) (same_sum id pin t book.techs) is.names_used
+
     grown : (x : Tech) → slice_get book.techs t ≡ Some x → IsTech (length book.names) x → IsTech (length book.names) (pins_added id pin x)
     grown x at x_is =
         let here : find (λ (l : Lib). l.id == id) x.libs ≡ Some old = ap (find (λ (l : Lib). l.id == id)) (sym (libs_at book t x at)) ∙ found in
         let place : slice_get x.libs (position_or_len (λ (l : Lib). l.id == id) x.libs) ≡ Some old = sym (find_at (λ (l : Lib). l.id == id) x.libs) ∙ here in
         let changed = touched id pin x.libs (position_or_len (λ (l : Lib). l.id == id) x.libs) old x_is.libs_apart place (found_id x.libs id old here) in
         let old_is : IsLib (length book.names) old = subst (IsLib (length book.names)) (get_or_from_slice_get x.libs (position_or_len (λ (l : Lib). l.id == id) x.libs) old old place)
-            (x_is.libs (position_or_len (λ (l : Lib). l.id == id) x.libs) old (slice_get_within x.libs (position_or_len (λ (l : Lib). l.id == id) x.libs) old place)) in
+        (x_is.libs (position_or_len (λ (l : Lib). l.id == id) x.libs) old (slice_get_within x.libs (position_or_len (λ (l : Lib). l.id == id) x.libs) old place)) in
         record {
           few_libs = omega (arith, x_is.few_libs, length-map x.libs (more_pins id pin));
           libs_apart = subst (IsDistinct nat_eq) (sym (more_pins_keep id pin x.libs)) x_is.libs_apart;
           libs = subst (All (IsLib (length book.names))) changed
               (All-set (IsLib (length book.names)) x.libs (position_or_len (λ (l : Lib). l.id == id) x.libs) (record old { pins = old.pins ++ pin ∷ [] })
-               (grown_is_lib (length book.names) old pin old_is room new small_x small_y) x_is.libs);
+              (grown_is_lib (length book.names) old pin old_is room new small_x small_y) x_is.libs);
         }
 
 -- where nothing refuses there is room, and the name is new
@@ -311,38 +326,48 @@ pin_added names techs libraries book t id pin d library r kept view there below 
   where
     s : IsSeen names techs libraries book
     s = seen names techs libraries book kept view
+
     refused : pins_refusal (pins_at (get_or libraries t d) id) pin.name ≡ pin_refusal book t id pin.name
     refused = ap (λ libs. pins_refusal (pins_at libs id) pin.name) (s.at t d (omega (arith, s.many)))
+
     stays : library ≡ get_or libraries t d → slice_set libraries t library ≡ libraries
     stays same = ap (slice_set libraries t) same ∙ set-get_or libraries t d
+
     unchanged : library ≡ get_or libraries t d → IsKeptBook names techs (slice_set libraries t library)
     unchanged same = subst (IsKeptBook names techs) (sym (stays same)) kept
+
     same_view : library ≡ get_or libraries t d → book_of names techs (slice_set libraries t library) ≡ book
     same_view same = ap (book_of names techs) (stays same) ∙ view
+
     as_added : library ≡ map (more_pins id pin) (get_or libraries t d) → book_of names techs (slice_set libraries t library) ≡ with_pin book t id pin
     as_added grown =
         ap (λ l. book_of names techs (slice_set libraries t l)) grown
         ∙ ap (λ ts. record { names = names; techs = ts })
-          (changed_kept (pins_added id pin) (map (more_pins id pin)) (λ n libs. refl) techs libraries t d (omega (arith, s.many)) kept.as_many)
+        (changed_kept (pins_added id pin) (map (more_pins id pin)) (λ n libs. refl) techs libraries t d (omega (arith, s.many)) kept.as_many)
         ∙ ap (λ b. with_pin b t id pin) view
+
     some_lib : (o : Option Lib) → IsTrue (is_some o) → (l : Lib) × (o ≡ Some l)
     some_lib None h = absurd (let no : false ≡ true = h in cc)
     some_lib (Some l) h = (l, refl)
+
     is_grown : pin_refusal book t id pin.name ≡ None → IsBook (with_pin book t id pin)
     is_grown none =
         let old = some_lib (lib_in book t id) there in
         let free : pins_refusal old.0.pins pin.name ≡ None = ap (λ o. pins_refusal (unwrap_or (option_map (λ (l : Lib). l.pins) o) []) pin.name) (sym old.1) ∙ none in
         with_pin_is_book book t id pin old.0 s.is_book old.1 (refusal_room old.0.pins pin.name free) (refusal_new old.0.pins pin.name free) small_x small_y
+
     by : (r : Result (Unit {0}) BuildFault)
         → Adds (pins_refusal (pins_at (get_or libraries t d) id) pin.name) tt (get_or libraries t d) (map (more_pins id pin) (get_or libraries t d)) r library
         → IsKeptBook names techs (slice_set libraries t library)
         × Adds (pin_refusal book t id pin.name) tt book (with_pin book t id pin) r (book_of names techs (slice_set libraries t library))
     by (Ok x) adds =
-        let none : pin_refusal book t id pin.name ≡ None = sym refused ∙ adds.0 in
-        (record {
-          as_many = kept.as_many ∙ sym (length-set libraries t library);
-          is_book = subst IsBook (sym (as_added adds.2)) (is_grown none);
-        }, (none, adds.1, as_added adds.2))
+        let none : pin_refusal book t id pin.name ≡ None = sym refused ∙ adds.0 in (
+          record {
+            as_many = kept.as_many ∙ sym (length-set libraries t library);
+            is_book = subst IsBook (sym (as_added adds.2)) (is_grown none);
+          },
+          (none, adds.1, as_added adds.2),
+        )
     by (Err Memory) adds = (unchanged adds, same_view adds)
     by (Err Twice) adds = (unchanged adds.1, (sym refused ∙ adds.0, same_view adds.1))
     by (Err Unknown) adds = (unchanged adds.1, (sym refused ∙ adds.0, same_view adds.1))
@@ -361,7 +386,7 @@ pub same_kept : (names techs new_names new_techs : List (List ℕ)) (libraries n
 same_kept names techs new_names new_techs libraries new_libraries book kept view same_names same_techs same_libraries =
     subst (λ ns. IsKeptAs ns new_techs new_libraries book) (sym same_names)
     (subst (λ ts. IsKeptAs names ts new_libraries book) (sym same_techs)
-     (subst (λ ls. IsKeptAs names techs ls book) (sym same_libraries) (record { kept = kept; view = view })))
+    (subst (λ ls. IsKeptAs names techs ls book) (sym same_libraries) (record { kept = kept; view = view })))
 
 pub number_small : (names : List (List ℕ)) (name : List ℕ) → length names ≤ 2 ^ 16 → unwrap_or (place_of name names) (length names) ≤ 2 ^ 16
 number_small names name few = omega (arith, id_named names name, (more_names names name).1)

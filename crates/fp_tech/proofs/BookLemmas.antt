@@ -1,14 +1,12 @@
 -- A kept book and its value.
-use Rattle.std.proofs.Common.{◌≡◌, ◌==◌, ℕ, zero, suc, ◌+◌, ◌-◌, ◌*◌, ◌<◌, ◌≤◌, ◌^◌, Bool, true, false, cond, List, [], ◌∷◌, ◌++◌, length, map, Option, Some, None, is_some, IsTrue, if◌then◌else◌, get_or, refl, sym, ap, subst, ◌∙◌, arith}
-use Rattle.std.specs.Prelude.{nat_eq, slice_get, slice_set, find, unwrap_or, All, sum_by}
+use Rattle.std.proofs.Common.{◌≡◌, ◌==◌, ℕ, zero, suc, ◌<◌, ◌≤◌, ◌^◌, Bool, true, false, List, [], ◌∷◌, length, map, Some, is_some, IsTrue, get_or, refl, sym, ap, subst, arith}
+use Rattle.std.specs.Prelude.{slice_get, find, unwrap_or}
 use Rattle.std.specs.Option.{option_map}
 use Rattle.std.proofs.lemmas.List.Sums.{sum_by-le}
 use Rattle.std.proofs.lemmas.List.Elements.{All-nil}
-use Rattle.std.specs.List.{IsDistinct, position_or_len}
-use Rattle.std.proofs.lemmas.List.Folds.{find_at}
-use Rattle.std.proofs.lemmas.Option.{get_or_from_slice_get, slice_get_within}
+use Rattle.std.specs.List.{IsDistinct}
 use Rattle.std.specs.Str.{bytes_eq}
-use Rattle.fp_tech.specs.Book.{Pin, Lib, Tech, Book, tech_names, libs_of, lib_in, pins_in, has, IsLib, IsTech, IsBook}
+use Rattle.fp_tech.specs.Book.{Lib, Tech, Book, tech_names, libs_of, lib_in, pins_in, has, IsTech, IsBook}
 use Rattle.fp_tech.specs.KeptBook.{techs_of, book_of, IsKeptBook}
 
 pub length-techs_of : (names : List (List ℕ)) (libraries : List (List Lib)) → length names ≡ length libraries → length (techs_of names libraries) ≡ length libraries

@@ -1,5 +1,5 @@
 -- That a centre's numbers fit, and that the bisection keeps its bounds.
-use Rattle.std.proofs.Common.{inl, inr, ◌≡◌, ℕ, ◌+◌, ◌-◌, ◌*◌, ◌/◌, ◌%◌, ◌<◌, ◌≤◌, ◌^◌, refl, sym, ap, subst, arith}
+use Rattle.std.proofs.Common.{inl, inr, ◌≡◌, ℕ, ◌+◌, ◌*◌, ◌/◌, ◌%◌, ◌<◌, ◌≤◌, ◌^◌, refl, subst, arith}
 use Rattle.std.proofs.lemmas.Nat.{mul-le}
 use Rattle.std.proofs.lemmas.Bool.{cases_lt}
 use Rattle.std.specs.Prelude.{ℤ}
@@ -34,7 +34,7 @@ placed s slot frame below =
 pub slot_placed : (g : Inside) (s : Slots) → IsKept g → slots_of g ≡ s → (slot : ℕ) → slot < slot_count s → IsPlaced s g slot
 slot_placed g s kept view slot h =
     subst (λ t. IsPlaced t g slot) view (subst (λ i. IsPlaced (slots_of g) i slot) kept.same
-                                         (placed (slots_of g) slot kept.is_frame (rw view h)))
+    (placed (slots_of g) slot kept.is_frame (rw view h)))
 
 -- at a stride that leaves too many slots each lesser one does
 pub least_more : (frame : Frame) (terminal : TermSpec) (middle : ℕ) → IsTermSpec terminal
@@ -45,7 +45,7 @@ least_more frame terminal middle is_terminal many lesser some less =
 few_along : (low high edge step : ℕ) → high ≤ 2 ^ 30 → 2 ^ 21 ≤ step → axis_count low high edge step ≤ 513
 few_along low high edge step small long =
     elim (cases_lt 513 (axis_count low high edge step)) [
-      inl more ↦ absurd (omega (arith, counted_fits low high edge step 513 more, mul-le 513 (2 ^ 21) 513 step (omega arith) long))
+      | inl more ↦ absurd (omega (arith, counted_fits low high edge step 513 more, mul-le 513 (2 ^ 21) 513 step (omega arith) long))
       | inr few ↦ few
     ]
 

@@ -1,6 +1,6 @@
 -- Library cells by their numbers, and a pin added to one of them.
-use Rattle.std.proofs.Common.{◌≡◌, ◌≢◌, ◌==◌, ℕ, zero, suc, ◌+◌, ◌-◌, ◌<◌, ◌≤◌, Bool, true, false, cond, ◌||◌, List, [], ◌∷◌, ◌++◌, length, map, take, Option, Some, None, is_some, IsSome, if◌then◌else◌, position, get_or, refl, sym, ap, subst, ◌∙◌, arith, Result, Ok, Err, add-one}
-use Rattle.std.specs.Prelude.{nat_eq, nat_lt, slice_get, slice_set, find, unwrap_or}
+use Rattle.std.proofs.Common.{◌≡◌, ◌==◌, ℕ, zero, suc, ◌+◌, Bool, true, false, cond, ◌||◌, List, [], ◌∷◌, ◌++◌, map, Option, Some, None, is_some, IsSome, if◌then◌else◌, position, get_or, refl, sym, ap, subst, ◌∙◌, Result, Ok, Err, add-one}
+use Rattle.std.specs.Prelude.{nat_eq, slice_get, slice_set, find, unwrap_or}
 use Rattle.std.proofs.lemmas.Bool.{eq-eqb, eqb-true}
 use Rattle.std.proofs.lemmas.List.{map-append}
 use Rattle.std.proofs.lemmas.Map.Keys.{IsDistinct-head, IsDistinct-tail}
@@ -9,7 +9,6 @@ use Rattle.indexmap.specs.IndexSet.{insert_key}
 use Rattle.std.specs.List.{list_any, IsDistinct, AllByRecursion}
 use Rattle.std.specs.Option.{option_map, option_and_then}
 use Rattle.std.proofs.lemmas.Cmp.{nat_eq_equiv}
-use Rattle.std.proofs.lemmas.Grind.{common_steps}
 use Rattle.fp_base.specs.declared.ids.LibId.{LibId}
 use Rattle.fp_tech.specs.declared.fault.BuildFault.{BuildFault}
 use Rattle.fp_tech.specs.declared.fault.BuildFault.TheVariants.{Twice, Unknown, Limit, Memory}
@@ -115,6 +114,7 @@ found_id (x ∷ xs) id old found = by (nat_eq x.id id) refl (found_id xs id old)
   where
     at : (b : Bool) → nat_eq x.id id ≡ b → cond b (Some x) (find (λ lib. lib.id == id) xs) ≡ Some old
     at b e = ap (λ t. cond t (Some x) (find (λ lib. lib.id == id) xs)) (sym e) ∙ found
+
     by : (b : Bool) → nat_eq x.id id ≡ b → (find (λ lib. lib.id == id) xs ≡ Some old → old.id ≡ id) → old.id ≡ id
     by true e behind = let first : Some x ≡ Some old = at true e in let here : x ≡ old = cc in ap (λ l. l.id) (sym here) ∙ eqb-true x.id id e
     by false e behind = behind (at false e)
@@ -133,8 +133,10 @@ adds_through libs id place old new pin name r apart at found adds = by r adds
   where
     refused : pins_refusal (pins_at libs id) name ≡ pins_refusal old.pins name
     refused = ap (λ f. pins_refusal (unwrap_or (option_map (λ lib. lib.pins) f) []) name) found
+
     stays : new ≡ old → slice_set libs place new ≡ libs
     stays same = ap (slice_set libs place) same ∙ set_back libs place old at
+
     by : (r : Result (Unit {0}) BuildFault) → Adds (pins_refusal old.pins name) tt old (record old { pins = old.pins ++ pin ∷ [] }) r new
         → Adds (pins_refusal (pins_at libs id) name) tt libs (map (more_pins id pin) libs) r (slice_set libs place new)
     by (Ok x) adds = (refused ∙ adds.0, adds.1, ap (slice_set libs place) adds.2 ∙ touched id pin libs place old apart at (found_id libs id old found))

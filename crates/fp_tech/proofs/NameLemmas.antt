@@ -1,7 +1,6 @@
 -- Look-ups by hash are those of the list of names.
-use Rattle.std.proofs.Common.{◌≡◌, ℕ, zero, suc, ◌+◌, ◌-◌, ◌<◌, ◌≤◌, Bool, true, false, cond, ◌||◌, List, [], ◌∷◌, ◌++◌, length, map, take, Option, Some, None, is_some, if◌then◌else◌, position, refl, sym, ap, subst, ◌∙◌, arith}
-use Rattle.std.specs.Prelude.{nat_lt, slice_get}
-use Rattle.std.specs.List.{list_any, prefix_len}
+use Rattle.std.proofs.Common.{◌≡◌, ℕ, ◌+◌, Bool, true, false, cond, ◌||◌, List, [], ◌∷◌, ◌++◌, map, Option, Some, None, is_some, if◌then◌else◌, position, refl, sym, ap, subst, ◌∙◌, arith}
+use Rattle.std.specs.List.{list_any}
 use Rattle.std.specs.Option.{option_map}
 use Rattle.std.specs.Str.{bytes_eq}
 use Rattle.std.proofs.lemmas.Cmp.{nat_list_eq_equiv}
@@ -12,7 +11,7 @@ use Rattle.indexmap.specs.IndexSet.{insert_key}
 use Rattle.std.specs.Global.{Vec}
 use Rattle.std.specs.Map.{keys_of}
 use Rattle.indexmap.specs.IndexMap.{insert_entry}
-use Rattle.fp_tech.specs.Book.{Pin, Lib, place_of, pin_names}
+use Rattle.fp_tech.specs.Book.{Lib, place_of, pin_names}
 use Rattle.fp_tech.specs.KeptBook.{pin_of}
 
 pub position-cons : {X : Type 0} (p : X → Bool) (x : X) (xs : List X) → position p (x ∷ xs) ≡ cond (p x) (Some 0) (option_map (λ k. k + 1) (position p xs))
@@ -70,14 +69,17 @@ pin_pushed (e ∷ es) key name x y named new = by (bytes_eq e.0.items name) refl
   where
     same : bytes_eq key.items e.0.items ≡ bytes_eq e.0.items name
     same = ap (λ n. bytes_eq n e.0.items) named ∙ nat_list_eq_equiv.symm name e.0.items
+
     none_behind : (o : Option ℕ) → option_map (λ k. k + 1) o ≡ None → o ≡ None
     none_behind None e = refl
     none_behind (Some k) e = cc
+
     at : (b : Bool) → bytes_eq e.0.items name ≡ b → if b then Some 0 else option_map (λ k. k + 1) (place_of name (map (λ pin. pin.name) (map pin_of es))) ≡ None
     at b found = sym (ap (λ b. if b then Some 0 else option_map (λ k. k + 1) (place_of name (map (λ pin. pin.name) (map pin_of es)))) found) ∙ new
+
     by : (b : Bool) → bytes_eq e.0.items name ≡ b
         → (place_of name (map (λ pin. pin.name) (map pin_of es)) ≡ None
-           → map pin_of (insert_entry (λ a b. bytes_eq a.items b.items) es key (x, y)) ≡ map pin_of es ++ record { name = name; x = x; y = y } ∷ [])
+        → map pin_of (insert_entry (λ a b. bytes_eq a.items b.items) es key (x, y)) ≡ map pin_of es ++ record { name = name; x = x; y = y } ∷ [])
         → map pin_of (insert_entry (λ a b. bytes_eq a.items b.items) (e ∷ es) key (x, y)) ≡ map pin_of (e ∷ es) ++ record { name = name; x = x; y = y } ∷ []
     by true found behind = absurd (let some : Some 0 ≡ None = at true found in cc)
     by false other behind =

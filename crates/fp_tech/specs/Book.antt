@@ -1,5 +1,5 @@
 -- The book of technologies as plain lists, and what each adding call makes of it.
-use Rattle.std.specs.Prelude.{◌≡◌, ℕ, zero, suc, ◌+◌, ◌<◌, ◌≤◌, ◌^◌, Bool, true, false, ◌==◌, nat_le, if◌then◌else◌, List, [], ◌∷◌, ◌++◌, length, map, find, Option, Some, None, is_some, option_map, option_and_then, unwrap_or, slice_get, nat_eq, pos, All, sum_by, Result, Ok, Err}
+use Rattle.std.specs.Prelude.{◌≡◌, ℕ, zero, suc, ◌+◌, ◌<◌, ◌≤◌, ◌^◌, Bool, false, ◌==◌, nat_le, if◌then◌else◌, List, [], ◌∷◌, ◌++◌, length, map, find, Option, Some, None, is_some, option_map, option_and_then, unwrap_or, slice_get, nat_eq, pos, All, sum_by, Result, Ok, Err}
 use Rattle.std.specs.List.{IsDistinct}
 use Rattle.std.specs.Str.{bytes_eq}
 use Rattle.fp_base.specs.declared.ids.Point.{Point}
@@ -75,6 +75,13 @@ lib_ids book tech = map (λ lib. lib.id) (libs_of book tech)
 -- the number that a library cell's name has or would get
 abbrev pub id_for : Book → List ℕ → ℕ
 id_for book name = unwrap_or (place_of name book.names) (length book.names)
+
+-- the names of a technology's library cells, in the order of adding
+abbrev pub name_at : List (List ℕ) → ℕ → List ℕ
+name_at names id = unwrap_or (slice_get names id) []
+
+abbrev pub lib_names : Book → ℕ → List (List ℕ)
+lib_names book tech = map (λ lib. name_at book.names lib.id) (libs_of book tech)
 
 -- the technology has a library cell of that name
 abbrev pub has_name : Book → ℕ → List ℕ → Bool

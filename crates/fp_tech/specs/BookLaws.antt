@@ -1,6 +1,6 @@
 -- Laws of the book: what is there after each adding.
-use Rattle.std.specs.Prelude.{◌≡◌, ◌≢◌, ◌==◌, ◌||◌, ℕ, ◌+◌, ◌<◌, ◌≤◌, ◌^◌, Bool, true, false, cond, List, [], ◌∷◌, ◌++◌, length, map, Option, Some, None, is_some, option_map, option_and_then, unwrap_or, slice_get, nat_eq, find, All, IsTrue, if◌then◌else◌}
-use Rattle.std.proofs.Common.{zero, suc, get_or, refl, sym, ap, subst, ◌∙◌, arith}
+use Rattle.std.specs.Prelude.{◌≡◌, ◌≢◌, ◌==◌, ◌||◌, ℕ, ◌+◌, ◌<◌, Bool, true, false, cond, List, [], ◌∷◌, ◌++◌, length, map, Option, Some, None, is_some, option_map, option_and_then, unwrap_or, slice_get, nat_eq, find, All, IsTrue, if◌then◌else◌}
+use Rattle.std.proofs.Common.{zero, suc, refl, sym, ap, subst, ◌∙◌, arith}
 use Rattle.std.specs.Str.{bytes_eq}
 use Rattle.std.specs.List.{IsDistinct, list_any, position_or_len}
 use Rattle.std.proofs.lemmas.Cmp.{nat_list_eq_equiv}
@@ -8,10 +8,10 @@ use Rattle.std.proofs.lemmas.Map.Keys.{IsDistinct-push}
 use Rattle.std.proofs.lemmas.List.Folds.{find_at}
 use Rattle.std.proofs.lemmas.List.{map-append, length-append}
 use Rattle.std.proofs.lemmas.List.Elements.{All-head, All-tail}
-use Rattle.std.proofs.lemmas.Option.{get_or_from_slice_get, slice_get_past, slice_get_within}
+use Rattle.std.proofs.lemmas.Option.{get_or_from_slice_get, slice_get_within}
 use Rattle.std.proofs.lemmas.Bool.{eq-eqb}
 use Rattle.std.proofs.lemmas.Bool.Decides.{nat_tests}
-use Rattle.fp_tech.specs.Book.{Pin, Lib, Tech, Book, place_of, tech_names, libs_of, lib_in, pins_in, has, has_name, id_for, changed_at, with_name, with_tech, with_lib, with_pin, more_libs, more_pins, pins_added, IsLib, IsTech, IsBook}
+use Rattle.fp_tech.specs.Book.{Pin, Lib, Tech, Book, place_of, tech_names, libs_of, lib_in, pins_in, has, has_name, id_for, changed_at, with_tech, with_lib, with_pin, more_libs, more_pins, pins_added, IsLib, IsTech, IsBook}
 
 place_behind : (p n : ℕ) (o : Option ℕ) → option_map (λ k. k + 1) o ≡ Some p → ((q : ℕ) → o ≡ Some q → q < n) → p < suc n
 place_behind p n None f rest = absurd (let no : None ≡ Some p = f in cc)
@@ -88,6 +88,7 @@ cell_within book t id l is found = by (slice_get book.techs t) refl
   where
     at : (o : Option Tech) → slice_get book.techs t ≡ o → find (λ (lib : Lib). lib.id == id) (unwrap_or (option_map (λ (tech : Tech). tech.libs) o) []) ≡ Some l
     at o e = ap (λ o. find (λ (lib : Lib). lib.id == id) (unwrap_or (option_map (λ (tech : Tech). tech.libs) o) [])) (sym e) ∙ found
+
     by : (o : Option Tech) → slice_get book.techs t ≡ o → IsLib (length book.names) l
     by None e = absurd (let no : None ≡ Some l = at None e in cc)
     by (Some tech) e =
@@ -104,13 +105,14 @@ number_free book t name is below free = by (place_of name book.names) free
   where
     within : All (IsLib (length book.names)) (libs_of book t)
     within = let tech = libs_within book t is below in subst (All (IsLib (length book.names))) (sym (libs_at book t tech.0 tech.1)) tech.2.libs
+
     none_if : {A : Type 0} (o : Option A) → is_some o ≡ false → o ≡ None
     none_if None e = refl
     none_if (Some x) e = cc
+
     by : (o : Option ℕ) → is_some (option_and_then (λ id. lib_in book t id) o) ≡ false → find (λ lib. lib.id == unwrap_or o (length book.names)) (libs_of book t) ≡ None
     by None e = find_none (length book.names) (libs_of book t) within
     by (Some id) e = none_if (find (λ lib. lib.id == id) (libs_of book t)) e
-
 
 -- an element of a list that is changed at one place
 pub slice_get-changed_at : {A : Type 0} (t : ℕ) (change : A → A) (xs : List A) → slice_get (changed_at t change xs) t ≡ option_map change (slice_get xs t)
@@ -127,11 +129,11 @@ slice_get-changed_other zero (suc u) change (x ∷ xs) other = refl
 slice_get-changed_other (suc t) zero change (x ∷ xs) other = refl
 slice_get-changed_other (suc t) (suc u) change (x ∷ xs) other = slice_get-changed_other t u change xs (λ e. other (ap suc e))
 
-slice_get-last : {A : Type 0} (xs : List A) (x : A) → slice_get (xs ++ x ∷ []) (length xs) ≡ Some x
+pub slice_get-last : {A : Type 0} (xs : List A) (x : A) → slice_get (xs ++ x ∷ []) (length xs) ≡ Some x
 slice_get-last [] x = refl
 slice_get-last (y ∷ ys) x = slice_get-last ys x
 
-slice_get-front : {A : Type 0} (xs : List A) (x : A) (k : ℕ) → k < length xs → slice_get (xs ++ x ∷ []) k ≡ slice_get xs k
+pub slice_get-front : {A : Type 0} (xs : List A) (x : A) (k : ℕ) → k < length xs → slice_get (xs ++ x ∷ []) k ≡ slice_get xs k
 slice_get-front [] x k below = absurd (omega arith)
 slice_get-front (y ∷ ys) x zero below = refl
 slice_get-front (y ∷ ys) x (suc k) below = slice_get-front ys x k (omega arith)
@@ -143,6 +145,7 @@ find_last p (y ∷ ys) x none passes = step (p y) refl (λ behind. find_last p y
   where
     at : (b : Bool) → p y ≡ b → cond b (Some y) (find p ys) ≡ None
     at b e = ap (λ t. cond t (Some y) (find p ys)) (sym e) ∙ none
+
     step : (b : Bool) → p y ≡ b → (find p ys ≡ None → find p (ys ++ x ∷ []) ≡ Some x) → cond (p y) (Some y) (find p (ys ++ x ∷ [])) ≡ Some x
     step true e behind = absurd (let no : Some y ≡ None = at true e in cc)
     step false e behind = ap (λ t. cond t (Some y) (find p (ys ++ x ∷ []))) e ∙ behind (at false e)
@@ -177,6 +180,7 @@ libs_of-with_lib book t name width height below =
   where
     lib : Lib
     lib = record { id = id_for book name; width = width; height = height; pins = [] }
+
     by : (o : Option Tech) → (o ≡ None → ⊥) → unwrap_or (option_map (λ (tech : Tech). tech.libs) (option_map (more_libs (record { id = id_for book name; width = width; height = height; pins = [] })) o)) []
         ≡ unwrap_or (option_map (λ (tech : Tech). tech.libs) o) [] ++ record { id = id_for book name; width = width; height = height; pins = [] } ∷ []
     by None some = absurd (some refl)
@@ -194,7 +198,7 @@ unfolding lib_in
 lib_in-with_lib book t name width height is below free =
     ap (find (λ (lib : Lib). lib.id == id_for book name)) (libs_of-with_lib book t name width height below)
     ∙ find_last (λ (lib : Lib). lib.id == id_for book name) (libs_of book t) (record { id = id_for book name; width = width; height = height; pins = [] })
-      (number_free book t name is below free) (eq-eqb (id_for book name) (id_for book name) refl)
+    (number_free book t name is below free) (eq-eqb (id_for book name) (id_for book name) refl)
 
 pub has-with_lib : (book : Book) (t : ℕ) (name : List ℕ) (width height : ℕ) → IsBook book → t < length book.techs → has_name book t name ≡ false
     → has (with_lib book t name width height) t (id_for book name) ≡ true
@@ -236,6 +240,7 @@ found_more_pins j id pin (x ∷ xs) =
     same : (b : Bool) → (if b then record x { pins = x.pins ++ pin ∷ [] } else x).id ≡ x.id
     same true = refl
     same false = refl
+
     by : (b : Bool) (rest : Option Lib) → cond b (Some (more_pins id pin x)) (option_map (more_pins id pin) rest) ≡ option_map (more_pins id pin) (cond b (Some x) rest)
     by true rest = refl
     by false rest = refl
@@ -258,6 +263,7 @@ found_number id (x ∷ xs) old found = by (nat_eq x.id id) refl (found_number id
   where
     at : (b : Bool) → nat_eq x.id id ≡ b → cond b (Some x) (find (λ lib. lib.id == id) xs) ≡ Some old
     at b e = ap (λ t. cond t (Some x) (find (λ lib. lib.id == id) xs)) (sym e) ∙ found
+
     by : (b : Bool) → nat_eq x.id id ≡ b → (find (λ lib. lib.id == id) xs ≡ Some old → nat_eq old.id id ≡ true) → nat_eq old.id id ≡ true
     by true e behind = let first : Some x ≡ Some old = at true e in let here : x ≡ old = cc in ap (λ l. nat_eq l.id id) (sym here) ∙ e
     by false e behind = behind (at false e)

@@ -1,6 +1,5 @@
 -- What a grid keeps beside its value.
-use Rattle.std.specs.Prelude.{◌≡◌, ℕ, ◌+◌, ◌*◌, ◌≤◌, ◌^◌}
-use Rattle.std.proofs.Common.{refl, arith, sym}
+use Rattle.std.specs.Prelude.{◌≡◌, ◌+◌, ◌*◌, ◌≤◌, ◌^◌}
 use Rattle.fp_tech.specs.Plan.{IsFrame, IsTermSpec}
 use Rattle.fp_tech.specs.Slots.{Slots, margin, pitch_x, pitch_y, across, up, slot_count, slot_limit}
 use Rattle.fp_tech.specs.declared.grid.Grid.TheInside.{Inside}

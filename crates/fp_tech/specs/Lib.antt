@@ -3,6 +3,7 @@ pub mod BookLaws
 pub mod KeptBook
 pub mod KeptDies
 pub mod KeptGrid
+pub mod LibNameLaws
 pub mod Plan
 pub mod PlanLaws
 pub mod Slots

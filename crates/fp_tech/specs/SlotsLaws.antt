@@ -1,16 +1,15 @@
 -- Laws of the grid of slots.
-use Rattle.std.specs.Prelude.{◌≡◌, ◌⊎◌, ℕ, ◌+◌, ◌-◌, ◌*◌, ◌/◌, ◌%◌, ◌<◌, ◌≤◌, ◌^◌, nat_le, if◌then◌else◌, pos, ◌+ℤ◌, ◌≤ℤ◌}
-use Rattle.std.proofs.Common.{zero, suc, refl, sym, ◌∙◌, ap, subst, inl, inr, arith}
+use Rattle.std.specs.Prelude.{◌≡◌, ◌⊎◌, ℕ, ◌+◌, ◌*◌, ◌/◌, ◌%◌, ◌<◌, ◌≤◌}
+use Rattle.std.proofs.Common.{zero, suc, sym, ◌∙◌, ap, inl, inr, arith}
 use Rattle.std.proofs.Math.Nat.{div-mul-le_self, div-add-mod}
 use Rattle.std.proofs.lemmas.Nat.{mul-le, le-div, rows}
 use Rattle.std.proofs.lemmas.Bool.{cases_lt}
 use Rattle.std.proofs.lemmas.Bool.Decides.{nat_tests}
 use Rattle.std.proofs.lemmas.Int.{ints}
 use Rattle.fp_tech.specs.Plan.{IsTermSpec}
-use Rattle.fp_base.specs.declared.ids.Point.{Point}
 use Rattle.fp_tech.specs.declared.dies.Frame.{Frame}
 use Rattle.fp_tech.specs.declared.dies.TermSpec.{TermSpec}
-use Rattle.fp_tech.specs.Slots.{Slots, margin, axis_count, pitch_x, pitch_y, across, up, slot_count, column_x, row_y, centre_of, slot_limit, grid_with, IsLeast, IsGrid, CountsAreExact, KeepsEdges, AreApart}
+use Rattle.fp_tech.specs.Slots.{Slots, margin, axis_count, pitch_x, pitch_y, across, up, slot_count, column_x, row_y, centre_of, slot_limit, grid_with, IsGrid, CountsAreExact, KeepsEdges, AreApart}
 
 steps_below : (room step k : ℕ) → k < room / step + 1 → k * step ≤ room
 steps_below room step k h =
@@ -29,9 +28,9 @@ fitting_counts low high edge step k some h = grind (arith, nat_tests, le-div)
 pub counts_fall : (low high edge step longer : ℕ) → 0 < step → step ≤ longer → axis_count low high edge longer ≤ axis_count low high edge step
 counts_fall low high edge step longer some h =
     all_below (axis_count low high edge longer) (axis_count low high edge step) (λ k counted.
-      let fits : low + 2 * edge + k * longer ≤ high = counted_fits low high edge longer k counted in
-      let less : k * step ≤ k * longer = mul-le k step k longer (omega arith) h in
-      fitting_counts low high edge step k some (omega arith))
+    let fits : low + 2 * edge + k * longer ≤ high = counted_fits low high edge longer k counted in
+    let less : k * step ≤ k * longer = mul-le k step k longer (omega arith) h in
+    fitting_counts low high edge step k some (omega arith))
   where
     all_below : (m n : ℕ) → ((k : ℕ) → k < m → k < n) → m ≤ n
     all_below zero n below = omega arith
@@ -85,9 +84,9 @@ unfolding across up
 slots_fall frame terminal stride longer is_terminal some h =
     mul-le (across (grid_with frame terminal longer)) (up (grid_with frame terminal longer)) (across (grid_with frame terminal stride)) (up (grid_with frame terminal stride))
     (counts_fall frame.llx frame.urx (margin terminal.size_x terminal.spacing) (stride * pitch_x terminal) (longer * pitch_x terminal)
-     (step_some stride terminal.size_x terminal.spacing some is_terminal.some_x) (mul-le stride (pitch_x terminal) longer (pitch_x terminal) h (omega arith)))
+    (step_some stride terminal.size_x terminal.spacing some is_terminal.some_x) (mul-le stride (pitch_x terminal) longer (pitch_x terminal) h (omega arith)))
     (counts_fall frame.lly frame.ury (margin terminal.size_y terminal.spacing) (stride * pitch_y terminal) (longer * pitch_y terminal)
-     (step_some stride terminal.size_y terminal.spacing some is_terminal.some_y) (mul-le stride (pitch_y terminal) longer (pitch_y terminal) h (omega arith)))
+    (step_some stride terminal.size_y terminal.spacing some is_terminal.some_y) (mul-le stride (pitch_y terminal) longer (pitch_y terminal) h (omega arith)))
 
 -- a slot's column and row are in range
 pub column_in : (s : Slots) (slot : ℕ) → slot < slot_count s → slot % across s < across s
@@ -126,7 +125,7 @@ next_place stride pitch j k some less =
 rows_or_columns : (width a b : ℕ) → a < b → (a / width < b / width) ⊎ (a % width < b % width)
 rows_or_columns width a b less =
     elim (cases_lt (a / width) (b / width)) [
-      inl later ↦ inl later
+      | inl later ↦ inl later
       | inr same ↦ inr (omega (arith, div-add-mod a width, div-add-mod b width, mul-le width (b / width) width (a / width) (omega arith) same))
     ]
 
@@ -135,7 +134,7 @@ pub slots_apart : (s : Slots) → 1 ≤ s.stride → (a b : ℕ) → a < b → A
 unfolding column_x row_y
 slots_apart s some a b less =
     elim (rows_or_columns (across s) a b less) [
-      inl rows ↦ inr (inl (let far = next_place s.stride (pitch_y s.terminal) (a / across s) (b / across s) some rows in omega (arith, ints, far)))
+      | inl rows ↦ inr (inl (let far = next_place s.stride (pitch_y s.terminal) (a / across s) (b / across s) some rows in omega (arith, ints, far)))
       | inr columns ↦ inl (inl (let far = next_place s.stride (pitch_x s.terminal) (a % across s) (b % across s) some columns in omega (arith, ints, far)))
     ]
 
@@ -145,12 +144,14 @@ grid_once frame terminal a b is_a is_b = sym (is_with a is_a) ∙ ap (grid_with 
   where
     is_with : (s : Slots) → IsGrid frame terminal s → grid_with frame terminal s.stride ≡ s
     is_with s is_s = ap (λ f. grid_with f terminal s.stride) (sym is_s.frame_is) ∙ ap (λ t. grid_with s.frame t s.stride) (sym is_s.terminal_is)
+
     not_less : (s t : Slots) → IsGrid frame terminal s → IsGrid frame terminal t → s.stride ≤ t.stride
     not_less s t is_s is_t =
         elim (cases_lt t.stride s.stride) [
-          inl less ↦ absurd (let few : slot_count (grid_with frame terminal t.stride) ≤ slot_limit = rw (is_with t is_t) is_t.few in
-                             omega (arith, is_s.least t.stride is_t.some_stride less))
+          | inl less ↦ absurd (let few : slot_count (grid_with frame terminal t.stride) ≤ slot_limit = rw (is_with t is_t) is_t.few in
+              omega (arith, is_s.least t.stride is_t.some_stride less))
           | inr more ↦ more
         ]
+
     same : a.stride ≡ b.stride
     same = omega (arith, not_less a b is_a is_b, not_less b a is_b is_a)

@@ -105,9 +105,7 @@ impl Dies {
         terminal: TermSpec,
     ) -> Result<Dies, DiesFault>
         requires { IsSetup (record { book = book; frame = frame; top = top; bottom = bottom; terminal = terminal }) }
-        ensures {
-            Makes (record { book = book; frame = frame; top = top; bottom = bottom; terminal = terminal }) result
-        }
+        ensures { Makes (record { book = book; frame = frame; top = top; bottom = bottom; terminal = terminal }) result }
     {
         if !rows_lie(frame, top) {
             return Err(DiesFault::RowsOutside(Die::Top));
@@ -217,35 +215,67 @@ fn row_at(spec: DieSpec, row: u32) -> Segment
 mod tests {
     use super::*;
     use crate::grid::Grid;
+    use std::process::Abort;
     use std::test::Fail;
 
-    fn frame() -> Frame {
-        Frame { llx: 0, lly: 0, urx: 20, ury: 20 }
-    }
-
-    fn spec(tech: TechId, start_x: u32) -> DieSpec {
-        DieSpec { percent: 80, tech, start_x, start_y: 0, length: 20, height: 5, repeat: 4 }
+    // Dies of 20 by 20 with four rows that begin at this x.
+    fn dies_at(
+        rt: &impl Abort,
+        alloc: Global,
+        book: TechBook,
+        tech: TechId,
+        start_x: u32,
+    ) -> Result<Dies, DiesFault>
+        requires { start_x ≤ 20 }
+    {
+        let frame = Frame {
+            llx: 0,
+            lly: 0,
+            urx: 20,
+            ury: 20,
+        };
+        let terminal = TermSpec {
+            size_x: 2,
+            size_y: 2,
+            spacing: 1,
+        };
+        let spec = DieSpec {
+            percent: 80,
+            tech,
+            start_x,
+            start_y: 0,
+            length: 20,
+            height: 5,
+            repeat: 4,
+        };
+        assert!(rt; tech.0 < book.techs());
+        Dies::new(alloc, book, frame, spec, spec, terminal)
     }
 
     #[test]
     fn rows_and_refusals(rt: HostRuntime) -> Result<(), Fail> {
-        let terminal = TermSpec { size_x: 2, size_y: 2, spacing: 1 };
         let mut book = TechBook::new(rt.alloc());
         let tech = book.add_tech(b"TA")?;
-        let dies = Dies::new(rt.alloc(), book, frame(), spec(tech, 0), spec(tech, 0), terminal)?;
+        let dies = dies_at(&rt, rt.alloc(), book, tech, 0)?;
         let rows = dies.segments_of(Die::Bottom);
         assert_eq!(&rt; rows.len(), 4);
-        assert_eq!(&rt; rows[3], Segment { y: 15, start: 0, length: 20 });
+        assert_eq!(&rt;
+            rows[3],
+            Segment {
+                y: 15,
+                start: 0,
+                length: 20
+            }
+        );
         assert_eq!(&rt; Grid::of(&dies).slots(), 36);
         Ok(())
     }
 
     #[test]
     fn rows_that_leave(rt: HostRuntime) -> Result<(), Fail> {
-        let terminal = TermSpec { size_x: 2, size_y: 2, spacing: 1 };
         let mut book = TechBook::new(rt.alloc());
         let tech = book.add_tech(b"TA")?;
-        match Dies::new(rt.alloc(), book, frame(), spec(tech, 1), spec(tech, 1), terminal) {
+        match dies_at(&rt, rt.alloc(), book, tech, 1) {
             Ok(_dies) => assert!(&rt; false, "they leave the frame"),
             Err(fault) => assert_eq!(&rt; fault, DiesFault::RowsOutside(Die::Top)),
         }

@@ -55,13 +55,9 @@ impl Grid {
     pub fn of(dies: &Dies) -> Grid
         ensures grid { IsGrid dies.now.frame dies.now.terminal result }
         ensures counts { CountsAreExact result }
-        ensures edges {
-            (s : ℕ) → s < slot_count result → KeepsEdges dies.now.frame dies.now.terminal (centre_of result s)
-        }
-        ensures apart {
-            (s t : ℕ) → s < t → t < slot_count result
-            → AreApart dies.now.terminal (centre_of result s) (centre_of result t)
-        }
+        ensures edges { (s : ℕ) → s < slot_count result → KeepsEdges dies.now.frame dies.now.terminal (centre_of result s) }
+        ensures apart { (s t : ℕ) → s < t → t < slot_count result
+            → AreApart dies.now.terminal (centre_of result s) (centre_of result t) }
     {
         grid_of(dies.frame(), dies.terminal())
     }
@@ -106,10 +102,8 @@ fn grid_of(frame: Frame, terminal: TermSpec) -> Grid
     ensures grid { IsGrid frame terminal result }
     ensures counts { CountsAreExact result }
     ensures edges { (s : ℕ) → s < slot_count result → KeepsEdges frame terminal (centre_of result s) }
-    ensures apart {
-        (s t : ℕ) → s < t → t < slot_count result
-        → AreApart terminal (centre_of result s) (centre_of result t)
-    }
+    ensures apart { (s t : ℕ) → s < t → t < slot_count result
+        → AreApart terminal (centre_of result s) (centre_of result t) }
 {
     let stride = least_stride(frame, terminal);
     let (across, up) = counts_at(frame, terminal, stride);
@@ -231,21 +225,55 @@ mod tests {
 
     #[test]
     fn slots_of_small_frames(rt: HostRuntime) {
-        let frame = Frame { llx: 0, lly: 0, urx: 20, ury: 20 };
-        let terminal = TermSpec { size_x: 2, size_y: 2, spacing: 1 };
+        let frame = Frame {
+            llx: 0,
+            lly: 0,
+            urx: 20,
+            ury: 20,
+        };
+        let terminal = TermSpec {
+            size_x: 2,
+            size_y: 2,
+            spacing: 1,
+        };
         expect_slot(&rt, frame, terminal, 36, 7, Point { x: 5, y: 5 });
-        let wide = TermSpec { size_x: 10, size_y: 10, spacing: 4 };
+        let wide = TermSpec {
+            size_x: 10,
+            size_y: 10,
+            spacing: 4,
+        };
         expect_slot(&rt, frame, wide, 1, 0, Point { x: 9, y: 9 });
-        let tight = Frame { llx: 3, lly: 3, urx: 20, ury: 20 };
+        let tight = Frame {
+            llx: 3,
+            lly: 3,
+            urx: 20,
+            ury: 20,
+        };
         assert_eq!(&rt; grid_of(tight, wide).slots(), 0);
     }
 
     #[test]
     fn stride_of_a_large_frame(rt: HostRuntime) {
-        let frame = Frame { llx: 0, lly: 0, urx: 4096, ury: 4096 };
-        let terminal = TermSpec { size_x: 1, size_y: 1, spacing: 1 };
+        let frame = Frame {
+            llx: 0,
+            lly: 0,
+            urx: 4096,
+            ury: 4096,
+        };
+        let terminal = TermSpec {
+            size_x: 1,
+            size_y: 1,
+            spacing: 1,
+        };
         expect_slot(&rt, frame, terminal, 1_048_576, 0, Point { x: 2, y: 2 });
-        expect_slot(&rt, frame, terminal, 1_048_576, 1_048_575, Point { x: 4094, y: 4094 });
+        expect_slot(
+            &rt,
+            frame,
+            terminal,
+            1_048_576,
+            1_048_575,
+            Point { x: 4094, y: 4094 },
+        );
         assert_eq!(&rt; grid_of(frame, terminal).across(), 1024);
     }
 }

@@ -90,11 +90,9 @@ impl LibCell {
     }
 
     pub fn add_pin(&mut self, alloc: Global, name: &[u8], x: u32, y: u32) -> Result<(), BuildFault>
-        ensures {
-            Adds (pins_refusal self.old.pins name.now) tt self.old
-                (record self.old { pins = self.old.pins ++ record { name = name.now; x = x; y = y } ∷ [] })
-                result self.new
-        }
+        ensures { Adds (pins_refusal self.old.pins name.now) tt self.old
+            (record self.old { pins = self.old.pins ++ record { name = name.now; x = x; y = y } ∷ [] })
+            result self.new }
     {
         if self.pins() >= PINS {
             return Err(BuildFault::Limit);
@@ -185,11 +183,9 @@ impl Library {
     ) -> Result<(), BuildFault>
         requires there { IsSome (find (λ lib. lib.id == id.0) self.old) }
         requires apart { IsDistinct nat_eq (map (λ lib. lib.id) self.old) }
-        ensures {
-            Adds (pins_refusal (pins_at self.old id.0) name.now) tt self.old
-                (map (more_pins id.0 (record { name = name.now; x = x; y = y })) self.old)
-                result self.new
-        }
+        ensures { Adds (pins_refusal (pins_at self.old id.0) name.now) tt self.old
+            (map (more_pins id.0 (record { name = name.now; x = x; y = y })) self.old)
+            result self.new }
     {
         let place = self.ids.get_index_of(&id).unwrap();
         let cell = &mut self.cells[place];

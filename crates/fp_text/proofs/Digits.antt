@@ -17,7 +17,7 @@ pub digit_more : (digits : List ℕ) (i n more total : ℕ) → i < length digit
 unfolding value_from
 digit_more digits i n more total lt is so_far =
     ap (λ k. value_from k (drop (i + 1) digits)) is
-        ∙ sym (ap (value_from n) (drop_more digits i 0 lt)) ∙ so_far
+    ∙ sym (ap (value_from n) (drop_more digits i 0 lt)) ∙ so_far
 
 -- above the greatest number before the last digit is above it at the end
 pub too_large : (digits : List ℕ) (i n most total : ℕ) → most < n

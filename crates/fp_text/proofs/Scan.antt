@@ -33,19 +33,21 @@ at_end bytes from start end blanks word same =
 pub none_left : (bytes : List ℕ) (from start end : ℕ) (old : Left) → Ran bytes from start true
     → Ran bytes start end false → start ≡ end
     → record { bytes = bytes; words = words_from from (drop from bytes) } ≡ old → (old.words ≡ [])
-        × (words_from end (drop end bytes) ≡ [])
+    × (words_from end (drop end bytes) ≡ [])
 none_left bytes from start end old blanks word same view =
     let le : length bytes ≤ start = at_end bytes from start end blanks word same in
-    let within : start ≤ length bytes = blanks.within in
-    (ap (λ (l : Left). l.words) (sym view)
-        ∙ words-skipped bytes from start blanks.behind within blanks.run
-        ∙ words-none bytes start le, words-none bytes end (omega arith))
+    let within : start ≤ length bytes = blanks.within in (
+      ap (λ (l : Left). l.words) (sym view)
+          ∙ words-skipped bytes from start blanks.behind within blanks.run
+          ∙ words-none bytes start le,
+      words-none bytes end (omega arith),
+    )
 
 pub one_left : (bytes : List ℕ) (from start end : ℕ) (old : Left) → Ran bytes from start true
     → Ran bytes start end false → start ≢ end
     → record { bytes = bytes; words = words_from from (drop from bytes) } ≡ old
     → (old.words ≡ record { at = start; text = slice_range old.bytes start end } ∷ words_from end
-        (drop end bytes)) × (start < end) × (end ≤ length old.bytes)
+    (drop end bytes)) × (start < end) × (end ≤ length old.bytes)
 one_left bytes from start end old blanks word other view =
     let bytes_is : bytes ≡ old.bytes = ap (λ (l : Left). l.bytes) view in
     let le : start ≤ end = word.behind in
@@ -53,10 +55,12 @@ one_left bytes from start end old blanks word other view =
       ap (λ (l : Left). l.words) (sym view)
           ∙ words-skipped bytes from start blanks.behind blanks.within blanks.run
           ∙ words-found bytes start end lt word.within word.run
-              (λ h. true_from_ne_false _ (word.stops h))
+          (λ h. true_from_ne_false _ (word.stops h))
           ∙ ap
-              (λ (b : List ℕ). record { at = start;
-              text = slice_range b start end } ∷ words_from end (drop end bytes)) bytes_is,
+          (λ (b : List ℕ). record {
+            at = start;
+            text = slice_range b start end;
+          } ∷ words_from end (drop end bytes)) bytes_is,
       lt,
       let within : end ≤ length bytes = word.within in rw (← bytes_is) within,
     )
@@ -69,6 +73,6 @@ token_left bytes from start end old edge blanks word other view =
     let one = one_left bytes from start end old blanks word other view in
     let bytes_is : bytes ≡ old.bytes = ap (λ (l : Left). l.bytes) view in
     subst
-        (λ (b : List ℕ). IsToken b
-        (record { at = start; text = slice_range old.bytes start end })) bytes_is
+    (λ (b : List ℕ). IsToken b
+    (record { at = start; text = slice_range old.bytes start end })) bytes_is
     (words_from-token bytes from _ _ edge (ap (λ (l : Left). l.words) view ∙ one.0))

@@ -42,7 +42,7 @@ abbrev pub signed_of : ℕ → List ℕ → Result ℤ NumberFault
 signed_of most [] = Err NotDigits
 signed_of most (byte ∷ digits) =
     if byte == 45 then below_zero (number_of most digits) else above_zero
-        (number_of most (byte ∷ digits))
+    (number_of most (byte ∷ digits))
 
 -- a byte of a name: printed, and no blank
 abbrev pub is_name_byte : ℕ → Bool

@@ -1,22 +1,24 @@
 -- Numbers and names as they are written: what is read of them, and that they are words.
-use Rattle.std.specs.Prelude.{◌≡◌, ℕ, suc, ◌+◌, ◌-◌, ◌*◌, ◌/◌, ◌%◌, ◌^◌, ◌<◌, ◌≤◌, Bool, true, false, List, [], ◌∷◌, ◌++◌, not, nat_lt, ◌&&◌, length, slice_index, decimal}
+use Rattle.std.specs.Prelude.{◌≡◌, ℕ, suc, ◌+◌, ◌-◌, ◌*◌, ◌/◌, ◌%◌, ◌^◌, ◌<◌, ◌≤◌, Bool, true, false, List, [], ◌∷◌, ◌++◌, not, nat_lt, ◌&&◌, length, decimal, nat_le, Result, Ok, ℤ, pos, negsuc, nat_abs}
 use Rattle.std.specs.List.{list_all}
-use Rattle.std.proofs.Common.{refl, sym, ap, ◌∙◌, arith, zero}
+use Rattle.std.specs.Fmt.{signed_decimal}
+use Rattle.std.proofs.Common.{refl, ap, ◌∙◌, arith, zero, eqb}
 use Rattle.std.proofs.lemmas.Bool.{and_parts, and_from, not-true, leb-true, le-leb, lt-ltb, ltb-true, ne_eqb, or_from}
 use Rattle.std.proofs.lemmas.List.{length-append}
 use Rattle.std.proofs.lemmas.List.Folds.{list_all-append}
 use Rattle.std.proofs.lemmas.Fmt.{decimal_by_steps}
 use Rattle.fp_text.specs.Words.{is_blank}
 use Rattle.fp_text.specs.WordsLaws.{AllAre}
-use Rattle.fp_text.specs.Numbers.{is_digit, is_digits, value_from, value_of, is_name_byte, is_name, Spells}
+use Rattle.fp_text.specs.Numbers.{is_digit, is_digits, value_from, value_of, is_name_byte, is_name, number_of, above_zero, below_zero, signed_of, Spells}
+use Rattle.fp_text.specs.declared.numbers.NumberFault.{NumberFault}
 
 -- a byte above the space is no blank
 pub no_blank-above : (byte : ℕ) → 33 ≤ byte → is_blank byte ≡ false
 no_blank-above byte above =
     or_from _ _
-        (or_from _ _
-        (or_from _ _ (ne_eqb byte 32 (λ e. omega arith)) (ne_eqb byte 9 (λ e. omega arith)))
-        (ne_eqb byte 13 (λ e. omega arith))) (ne_eqb byte 10 (λ e. omega arith))
+    (or_from _ _
+    (or_from _ _ (ne_eqb byte 32 (λ e. omega arith)) (ne_eqb byte 9 (λ e. omega arith)))
+    (ne_eqb byte 13 (λ e. omega arith))) (ne_eqb byte 10 (λ e. omega arith))
 
 -- bytes that pass a test which no blank passes
 all-no_blank : (test : ℕ → Bool) → ((byte : ℕ) → test byte ≡ true → is_blank byte ≡ false)
@@ -42,7 +44,8 @@ solid-tested text tested =
     record {
       some = ltb-true 0 (length text) parts.0;
       no_blank =
-          all-no_blank (λ byte. not (is_blank byte)) (λ byte h. not-true (is_blank byte) h) text parts.1;
+          all-no_blank (λ byte. not (is_blank byte))
+          (λ byte h. not-true (is_blank byte) h) text parts.1;
     }
 
 -- digits, and names, are words
@@ -116,9 +119,44 @@ decimal-value n lt = (writes n lt).value
 pub decimal-spells : (least most n : ℕ) → least ≤ n → n ≤ most → n < 2 ^ 64
     → Spells least most (decimal n) n
 decimal-spells least most n at_least at_most lt =
-    record { digits = decimal-digits n lt; value = decimal-value n lt; at_least = at_least;
-    at_most = at_most }
+    record {
+      digits = decimal-digits n lt;
+      value = decimal-value n lt;
+      at_least = at_least;
+      at_most = at_most;
+    }
 
 pub decimal-solid : (n : ℕ) → n < 2 ^ 64 → IsSolid (decimal n)
 decimal-solid n lt = digits-solid (decimal n) (decimal-digits n lt)
 
+abbrev read : ℕ → Result ℕ NumberFault
+read n = Ok n
+
+-- what is written in plain decimal is read again
+pub number-decimal : (most n : ℕ) → n ≤ most → n < 2 ^ 64 → number_of most (decimal n) ≡ Ok n
+number-decimal most n small lt =
+    let digits : is_digits (decimal n) ≡ true = decimal-digits n lt in
+    let value : value_of (decimal n) ≡ n = decimal-value n lt in
+    let fits : nat_le (value_of (decimal n)) most ≡ true =
+    le-leb (value_of (decimal n)) most (omega arith) in
+    rw (digits, fits) (ap (λ v. read v) value)
+
+-- digits have no sign in front
+signed_of-digits : (most : ℕ) (text : List ℕ) → is_digits text ≡ true
+    → signed_of most text ≡ above_zero (number_of most text)
+signed_of-digits most [] digits = absurd cc
+signed_of-digits most (byte ∷ text) digits =
+    let parts = and_parts _ (list_all is_digit (byte ∷ text)) digits in
+    let low : 48 ≤ byte =
+    leb-true 48 byte
+    (and_parts _ _ (and_parts (is_digit byte) (list_all is_digit text) parts.1).0).0 in
+    let other : eqb byte 45 ≡ false = ne_eqb byte 45 (λ e. omega arith) in
+    rw other refl
+
+-- a signed number in plain decimal is read again
+pub signed-decimal : (most : ℕ) (z : ℤ) → nat_abs z ≤ most → nat_abs z < 2 ^ 64
+    → signed_of most (signed_decimal z) ≡ Ok z
+signed-decimal most (pos n) small lt =
+    signed_of-digits most (decimal n) (decimal-digits n lt)
+    ∙ ap above_zero (number-decimal most n small lt)
+signed-decimal most (negsuc n) small lt = ap below_zero (number-decimal most (suc n) small lt)

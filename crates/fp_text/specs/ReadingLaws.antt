@@ -63,7 +63,7 @@ unfolding word_next
 word_ok-from bytes [] word left e = absurd cc
 word_ok-from bytes (first ∷ words) word left e =
     let same =
-        ok_is (first, left_of (record { bytes = bytes; words = words }) words) (word, left) e in
+    ok_is (first, left_of (record { bytes = bytes; words = words }) words) (word, left) e in
     record {
       words = ap (λ (p : Word × Left). p.0 ∷ p.1.words) same;
       bytes = ap (λ (p : Word × Left). p.1.bytes) (sym same);
@@ -85,12 +85,12 @@ pub keyword_ok : (keyword : List ℕ) (l : Left) (at : ℕ) (left : Left)
 unfolding keyword_next
 keyword_ok keyword l at left e =
     let b =
-        bind_ok (word_next l)
-        (λ word. if bytes_eq word.0.text keyword then done
-        (word.0.at, word.1) else fault word.0.at WrongWord) (at, left) e in
+    bind_ok (word_next l)
+    (λ word. if bytes_eq word.0.text keyword then done
+    (word.0.at, word.1) else fault word.0.at WrongWord) (at, left) e in
     let t =
-        cond_ok (bytes_eq b.0.0.text keyword) (done (b.0.0.at, b.0.1))
-        (record { at = b.0.0.at; kind = WrongWord }) (at, left) b.2 in
+    cond_ok (bytes_eq b.0.0.text keyword) (done (b.0.0.at, b.0.1))
+    (record { at = b.0.0.at; kind = WrongWord }) (at, left) b.2 in
     let same = ok_is (b.0.0.at, b.0.1) (at, left) t.1 in
     let text : b.0.0.text ≡ keyword = (bytes_eq-Decides b.0.0.text keyword).0 t.0 in
     let at_is : b.0.0.at ≡ at = ap (λ (p : ℕ × Left). p.0) same in
@@ -115,14 +115,14 @@ pub name_ok : (l : Left) (word : Word) (left : Left) → name_next l ≡ Ok (wor
 unfolding name_next
 name_ok l word left e =
     let b =
-        bind_ok (word_next l) (λ w. if is_name w.0.text then done w else fault w.0.at Name)
-        (word, left) e in
+    bind_ok (word_next l) (λ w. if is_name w.0.text then done w else fault w.0.at Name)
+    (word, left) e in
     let t =
-        cond_ok (is_name b.0.0.text) (done b.0) (record { at = b.0.0.at; kind = Name })
-        (word, left) b.2 in
+    cond_ok (is_name b.0.0.text) (done b.0) (record { at = b.0.0.at; kind = Name })
+    (word, left) b.2 in
     let same = ok_is b.0 (word, left) t.1 in
     subst (λ (p : Word × Left). IsNext l p.0 p.1 × (is_name p.0.text ≡ true)) same
-        (word_ok l b.0.0 b.0.1 b.1, t.0)
+    (word_ok l b.0.0 b.0.1 b.1, t.0)
 
 pub name_again : (l : Left) (word : Word) (words : List Word) → l.words ≡ word ∷ words
     → is_name word.text ≡ true → name_next l ≡ Ok (word, left_of l words)
@@ -155,13 +155,13 @@ number_from-ok least most above word l n left e =
     let high : Read ℕ = if nat_lt most value then fault word.at above else done (value, l) in
     let low : Read ℕ = if nat_lt value least then fault word.at Range else high in
     let t =
-        cond_ok (is_digits word.text && nat_le value (2 ^ 30)) low
-        (record { at = word.at; kind = Number }) (n, left) e in
+    cond_ok (is_digits word.text && nat_le value (2 ^ 30)) low
+    (record { at = word.at; kind = Number }) (n, left) e in
     let u =
-        cond_not (nat_lt value least) high (record { at = word.at; kind = Range }) (n, left) t.1 in
+    cond_not (nat_lt value least) high (record { at = word.at; kind = Range }) (n, left) t.1 in
     let v =
-        cond_not (nat_lt most value) (done (value, l)) (record { at = word.at; kind = above })
-        (n, left) u.1 in
+    cond_not (nat_lt most value) (done (value, l)) (record { at = word.at; kind = above })
+    (n, left) u.1 in
     let same = ok_is (value, l) (n, left) v.1 in
     let is : value ≡ n = ap (λ (p : ℕ × Left). p.0) same in
     let parts = and_parts (is_digits word.text) (nat_le value (2 ^ 30)) t.0 in
@@ -179,8 +179,13 @@ unfolding number_next
 number_ok least most above l n left e =
     let b = bind_ok (word_next l) (number_from least most above) (n, left) e in
     let t = number_from-ok least most above b.0.0 b.0.1 n left b.2 in
-    record { word = b.0.0; next = subst (IsNext l b.0.0) t.2
-        (word_ok l b.0.0 b.0.1 b.1); spells = t.0; small = t.1 }
+    record {
+      word = b.0.0;
+      next = subst (IsNext l b.0.0) t.2
+          (word_ok l b.0.0 b.0.1 b.1);
+      spells = t.0;
+      small = t.1;
+    }
 
 pub number_again : (least most : ℕ) (above : Kind) (l : Left) (word : Word) (words : List Word)
     (n : ℕ) → l.words ≡ word ∷ words → Spells least most word.text n → n ≤ 2 ^ 30
@@ -193,11 +198,11 @@ number_again least most above l word words n is spells small =
     let number : (is_digits word.text && nat_le (value_of word.text) (2 ^ 30)) ≡ true =
     and_from _ _ spells.digits (le-leb (value_of word.text) (2 ^ 30) (omega arith)) in
     let low : nat_lt (value_of word.text) least ≡ false =
-        le-ltb (value_of word.text) least (omega arith) in
+    le-ltb (value_of word.text) least (omega arith) in
     let high : nat_lt most (value_of word.text) ≡ false =
-        le-ltb most (value_of word.text) (omega arith) in
+    le-ltb most (value_of word.text) (omega arith) in
     rw (word_again l word words is, number, low, high)
-        (ap (λ v. done (v, left_of l words)) value_is)
+    (ap (λ v. done (v, left_of l words)) value_is)
 
 -- ---- the end
 
@@ -223,12 +228,12 @@ pub many_step : {A : Type 0} (item : List A → Left → Read A) (count i : ℕ)
     (l : Left) (x : A) (after : Left) (total : Read (List A)) → i < count
     → item so_far l ≡ Ok (x, after)
     → many_next item (count - i) so_far l ≡ total
-        → many_next item (count - (i + 1)) (so_far ++ x ∷ []) after ≡ total
+    → many_next item (count - (i + 1)) (so_far ++ x ∷ []) after ≡ total
 unfolding many_next
 many_step item count i so_far l x after total lt read is =
     let more : count - i ≡ suc (count - (i + 1)) = omega arith in
     let one : many_next item (count - i) so_far l ≡ many_next item (count - (i + 1))
-        (so_far ++ x ∷ []) after = rw (more, read) refl in
+    (so_far ++ x ∷ []) after = rw (more, read) refl in
     sym one ∙ is
 
 -- an item failed
@@ -273,9 +278,9 @@ pub record AreRead {A : Type 0} (stands : List A → A → List Word → List Wo
 pub many_ok : {A : Type 0} (item : List A → Left → Read A)
     (stands : List A → A → List Word → List Word → Type 0)
     → ((before : List A) (l : Left) (x : A) (left : Left) → item before l ≡ Ok (x, left)
-        → stands before x l.words left.words × (left.bytes ≡ l.bytes))
+    → stands before x l.words left.words × (left.bytes ≡ l.bytes))
     → (count : ℕ) (before : List A) (l : Left) (all : List A) (left : Left)
-        → many_next item count before l ≡ Ok (all, left) → AreRead stands count before l all left
+    → many_next item count before l ≡ Ok (all, left) → AreRead stands count before l all left
 unfolding many_next
 many_ok {A = A} item stands one zero before l all left e =
     let same = ok_is (before, l) (all, left) e in
@@ -288,8 +293,8 @@ many_ok {A = A} item stands one zero before l all left e =
     }
 many_ok {A = A} item stands one (suc count) before l all left e =
     let b =
-        bind_ok (item before l) (λ first. many_next item count (before ++ first.0 ∷ []) first.1)
-        (all, left) e in
+    bind_ok (item before l) (λ first. many_next item count (before ++ first.0 ∷ []) first.1)
+    (all, left) e in
     let first = one before l b.0.0 b.0.1 b.1 in
     let rest = many_ok item stands one count (before ++ b.0.0 ∷ []) b.0.1 all left b.2 in
     record {
@@ -303,9 +308,9 @@ many_ok {A = A} item stands one (suc count) before l all left e =
 pub many_again : {A : Type 0} (item : List A → Left → Read A)
     (stands : List A → A → List Word → List Word → Type 0)
     → ((before : List A) (l : Left) (x : A) (rest : List Word) → stands before x l.words rest
-        → item before l ≡ Ok (x, left_of l rest))
+    → item before l ≡ Ok (x, left_of l rest))
     → (items before : List A) (l : Left) (rest : List Word) → Each stands before items l.words rest
-        → many_next item (length items) before l ≡ Ok (before ++ items, left_of l rest)
+    → many_next item (length items) before l ≡ Ok (before ++ items, left_of l rest)
 unfolding many_next
 many_again {A = A} item stands one [] before l rest each =
     ap (λ (ws : List Word). done (before, left_of l ws)) each
@@ -313,5 +318,5 @@ many_again {A = A} item stands one [] before l rest each =
 many_again {A = A} item stands one (x ∷ items) before l rest each =
     let next = many_again item stands one items (before ++ x ∷ []) (left_of l each.0) rest each.2 in
     rw (one before l x each.0 each.1)
-        (next
-        ∙ ap (λ (xs : List A). done (xs, left_of l rest)) (append_assoc before (x ∷ []) items))
+    (next
+    ∙ ap (λ (xs : List A). done (xs, left_of l rest)) (append_assoc before (x ∷ []) items))

@@ -22,7 +22,7 @@ unfoldable pub words_from : ℕ → List ℕ → List Word
 words_from at [] = []
 words_from at (byte ∷ bytes) =
     if is_blank byte then words_from (at + 1) bytes else begun_by at byte
-        (words_from (at + 1) bytes)
+    (words_from (at + 1) bytes)
 
 -- the tokens of a whole text
 abbrev pub words_of : List ℕ → List Word

@@ -34,8 +34,8 @@ pub words-blanks : (blanks bytes : List ℕ) (at : ℕ) → AllAre true blanks
 words-blanks [] bytes at all = ap (λ n. words_from n bytes) (omega arith)
 words-blanks (b ∷ bs) bytes at all =
     words-blank b (bs ++ bytes) at (all 0 (omega arith))
-        ∙ words-blanks bs bytes (at + 1) (λ i lt. all (suc i) (omega arith))
-        ∙ ap (λ n. words_from n bytes) (omega arith)
+    ∙ words-blanks bs bytes (at + 1) (λ i lt. all (suc i) (omega arith))
+    ∙ ap (λ n. words_from n bytes) (omega arith)
 
 -- the first word, if any, begins here or later
 abbrev FirstFrom : ℕ → List Word → Type 0
@@ -51,8 +51,11 @@ unfolding begun_by
 begun-first at byte [] = omega arith
 begun-first at byte (word ∷ words) =
     elim
-        (cases_Bool (eqb word.at (at + 1))) [ inl e ↦ rw e (omega arith) | inr e ↦
-        rw e (omega arith) ]
+    (cases_Bool (eqb word.at (at + 1))) [
+      | inl e ↦ rw e (omega arith)
+      | inr e ↦
+          rw e (omega arith)
+    ]
 
 words-first : (bytes : List ℕ) (at : ℕ) → FirstFrom at (words_from at bytes)
 unfolding words_from
@@ -92,23 +95,23 @@ begun-longer at byte word words same =
 pub words-word : (byte : ℕ) (text bytes : List ℕ) (at : ℕ) → AllAre false (byte ∷ text)
     → Breaks bytes
     → words_from at (byte ∷ text ++ bytes) ≡ record { at = at; text = byte ∷ text } ∷ words_from
-        (at + suc (length text)) bytes
+    (at + suc (length text)) bytes
 words-word byte [] bytes at all breaks =
     words-begun byte bytes at (all 0 (omega arith))
-        ∙ begun-alone at byte (words_from (at + 1) bytes) (breaks-first bytes (at + 1) breaks)
-        ∙ ap (λ n. record { at = at; text = byte ∷ [] } ∷ words_from n bytes) (omega arith)
+    ∙ begun-alone at byte (words_from (at + 1) bytes) (breaks-first bytes (at + 1) breaks)
+    ∙ ap (λ n. record { at = at; text = byte ∷ [] } ∷ words_from n bytes) (omega arith)
 words-word byte (b ∷ text) bytes at all breaks =
     let rest = words-word b text bytes (at + 1) (λ i lt. all (suc i) (omega arith)) breaks in
     words-begun byte (b ∷ text ++ bytes) at (all 0 (omega arith))
     ∙ ap (begun_by at byte) rest
     ∙ begun-longer at byte (record { at = at + 1; text = b ∷ text })
-        (words_from (at + 1 + suc (length text)) bytes) refl
+    (words_from (at + 1 + suc (length text)) bytes) refl
     ∙ ap (λ n. record { at = at; text = byte ∷ b ∷ text } ∷ words_from n bytes) (omega arith)
 
 pub words-solid : (text bytes : List ℕ) (at : ℕ) → 0 < length text → AllAre false text
     → Breaks bytes
     → words_from at (text ++ bytes) ≡ record { at = at; text = text } ∷ words_from
-        (at + length text) bytes
+    (at + length text) bytes
 words-solid [] bytes at some all breaks = absurd (omega arith)
 words-solid (byte ∷ text) bytes at some all breaks = words-word byte text bytes at all breaks
 
@@ -116,11 +119,11 @@ words-solid (byte ∷ text) bytes at some all breaks = words-word byte text byte
 pub words-one : (text bytes : List ℕ) (blank at : ℕ) → 0 < length text → AllAre false text
     → is_blank blank ≡ true
     → words_from at (text ++ blank ∷ bytes) ≡ record { at = at; text = text } ∷ words_from
-        (at + length text + 1) bytes
+    (at + length text + 1) bytes
 words-one text bytes blank at some all is =
     words-solid text (blank ∷ bytes) at some all is
-        ∙ ap (λ (ws : List Word). record { at = at; text = text } ∷ ws)
-        (words-blank blank bytes (at + length text) is)
+    ∙ ap (λ (ws : List Word). record { at = at; text = text } ∷ ws)
+    (words-blank blank bytes (at + length text) is)
 
 -- a part of the bytes
 slice_length : (bytes : List ℕ) (from to : ℕ) → from ≤ to → to ≤ length bytes
@@ -130,53 +133,55 @@ slice_length bytes from to le within =
 
 all-slice : (blank : Bool) (bytes : List ℕ) (from to : ℕ) → from ≤ to → to ≤ length bytes
     → ((k : ℕ) → from ≤ k → k < to → is_blank (slice_index bytes k) ≡ blank)
-        → AllAre blank (slice_range bytes from to)
+    → AllAre blank (slice_range bytes from to)
 all-slice blank bytes from to le within all i lt =
     let long : length (slice_range bytes from to) ≡ to - from =
-        slice_length bytes from to le within in
+    slice_length bytes from to le within in
     ap is_blank
-        (get_or-take (to - from) (drop from bytes) i 0 (omega arith) ∙ get_or-drop from bytes i 0)
-        ∙ all (from + i) (omega arith) (omega arith)
+    (get_or-take (to - from) (drop from bytes) i 0 (omega arith) ∙ get_or-drop from bytes i 0)
+    ∙ all (from + i) (omega arith) (omega arith)
 
 breaks-rest : (rest bytes : List ℕ) (at : ℕ) → drop at bytes ≡ rest
     → (at < length bytes → is_blank (slice_index bytes at) ≡ true) → Breaks rest
 breaks-rest [] bytes at stands behind = tt
 breaks-rest (byte ∷ rest) bytes at stands behind =
     ap is_blank
-        (ap (λ (l : List ℕ). get_or l 0 0) (sym stands) ∙ get_or-drop at bytes 0 0
-        ∙ ap (λ n. get_or bytes n 0) (omega arith))
-        ∙ behind (omega (arith, length-drop at bytes, ap length stands))
+    (ap (λ (l : List ℕ). get_or l 0 0) (sym stands) ∙ get_or-drop at bytes 0 0
+    ∙ ap (λ n. get_or bytes n 0) (omega arith))
+    ∙ behind (omega (arith, length-drop at bytes, ap length stands))
 
 -- the words from a place on are those from a later one, where blanks alone stand between
 pub words-skipped : (bytes : List ℕ) (from to : ℕ) → from ≤ to → to ≤ length bytes
     → ((k : ℕ) → from ≤ k → k < to → is_blank (slice_index bytes k) ≡ true)
-        → words_from from (drop from bytes) ≡ words_from to (drop to bytes)
+    → words_from from (drop from bytes) ≡ words_from to (drop to bytes)
 words-skipped bytes from to le within all =
     let long : length (slice_range bytes from to) ≡ to - from =
-        slice_length bytes from to le within in
+    slice_length bytes from to le within in
     ap (words_from from) (drop_split bytes from to le)
     ∙ words-blanks (slice_range bytes from to) (drop to bytes) from
-        (all-slice true bytes from to le within all)
+    (all-slice true bytes from to le within all)
     ∙ ap (λ n. words_from n (drop to bytes)) (omega arith)
 
 -- the words from a place on begin with the word that stands there
 pub words-found : (bytes : List ℕ) (start end : ℕ) → start < end → end ≤ length bytes
     → ((k : ℕ) → start ≤ k → k < end → is_blank (slice_index bytes k) ≡ false)
-        → (end < length bytes → is_blank (slice_index bytes end) ≡ true)
+    → (end < length bytes → is_blank (slice_index bytes end) ≡ true)
     → words_from start
-        (drop start bytes) ≡ record { at = start;
-        text = slice_range bytes start end } ∷ words_from end (drop end bytes)
+    (drop start bytes) ≡ record {
+      at = start;
+      text = slice_range bytes start end;
+    } ∷ words_from end (drop end bytes)
 words-found bytes start end lt within all behind =
     let le : start ≤ end = omega arith in
     let long : length (slice_range bytes start end) ≡ end - start =
-        slice_length bytes start end le within in
+    slice_length bytes start end le within in
     ap (words_from start) (drop_split bytes start end le)
     ∙ words-solid (slice_range bytes start end) (drop end bytes) start (omega arith)
-        (all-slice false bytes start end le within all)
-        (breaks-rest (drop end bytes) bytes end refl behind)
+    (all-slice false bytes start end le within all)
+    (breaks-rest (drop end bytes) bytes end refl behind)
     ∙ ap
-        (λ n. record { at = start; text = slice_range bytes start end } ∷ words_from n
-        (drop end bytes)) (omega arith)
+    (λ n. record { at = start; text = slice_range bytes start end } ∷ words_from n
+    (drop end bytes)) (omega arith)
 
 -- no words are left behind the last blank
 pub words-none : (bytes : List ℕ) (at : ℕ) → length bytes ≤ at → words_from at (drop at bytes) ≡ []
@@ -204,8 +209,11 @@ longer : (from to : ℕ) (bytes : List ℕ) → is_blank (slice_index bytes from
     → (i : ℕ) → from ≤ i → i < to → is_blank (slice_index bytes i) ≡ true
 longer from to bytes blank all i le lt =
     elim
-        (cases_eq i from) [ inl e ↦ ap (λ n. is_blank (slice_index bytes n)) e ∙ blank | inr ne ↦
-        all i (omega arith) lt ]
+    (cases_eq i from) [
+      | inl e ↦ ap (λ n. is_blank (slice_index bytes n)) e ∙ blank
+      | inr ne ↦
+          all i (omega arith) lt
+    ]
 
 cut-blank : (from : ℕ) (bytes : List ℕ) (words : List Word)
     → is_blank (slice_index bytes from) ≡ true → Cut (from + 1) bytes words → Cut from bytes words
@@ -246,7 +254,7 @@ no_blank-begun byte text blank all (suc i) lt = all i (omega arith)
 chunk-one : (from byte : ℕ) (rest bytes : List ℕ) → drop from bytes ≡ byte ∷ rest
     → is_blank byte ≡ false
     → (from + 1 < length bytes → is_blank (slice_index bytes (from + 1)) ≡ true)
-        → Chunk from bytes (record { at = from; text = byte ∷ [] })
+    → Chunk from bytes (record { at = from; text = byte ∷ [] })
 chunk-one from byte rest bytes stands blank behind = record {
   begins = omega arith;
   blanks = λ i le lt. absurd (omega arith);
@@ -263,16 +271,16 @@ cut-begun : (from byte : ℕ) (rest bytes : List ℕ) (words : List Word)
     → Cut from bytes (begun_by from byte words)
 cut-begun from byte rest bytes [] stands blank cut =
     rw (begun-alone from byte [] tt)
-        (chunk-one from byte rest bytes stands blank (λ lt. cut (from + 1) (omega arith) lt), cut)
+    (chunk-one from byte rest bytes stands blank (λ lt. cut (from + 1) (omega arith) lt), cut)
 cut-begun from byte rest bytes (word ∷ words) stands blank cut =
     let le : from + 1 ≤ word.at = cut.0.begins in
     elim (cases_eq word.at (from + 1)) [
       | inl same ↦
           let text : byte ∷ word.text ≡ take (suc (length word.text)) (drop from bytes) =
           ap (λ (l : List ℕ). byte ∷ l)
-              (cut.0.stands
-              ∙ ap (take (length word.text))
-              (ap (λ n. drop n bytes) same ∙ rest_at from byte rest bytes stands))
+          (cut.0.stands
+          ∙ ap (take (length word.text))
+          (ap (λ n. drop n bytes) same ∙ rest_at from byte rest bytes stands))
           ∙ ap (take (suc (length word.text))) (sym stands) in
           let end : word.at + length word.text ≡ from + suc (length word.text) = omega arith in
           rw (begun-longer from byte word words same) (
@@ -292,9 +300,11 @@ cut-begun from byte rest bytes (word ∷ words) stands blank cut =
           )
       | inr other ↦
           let later : from + 1 + 1 ≤ word.at = omega arith in
-          rw (begun-alone from byte (word ∷ words) later)
-              (chunk-one from byte rest bytes stands blank
-              (λ lt. cut.0.blanks (from + 1) (omega arith) (omega arith)), cut)
+          rw (begun-alone from byte (word ∷ words) later) (
+            chunk-one from byte rest bytes stands blank
+                (λ lt. cut.0.blanks (from + 1) (omega arith) (omega arith)),
+            cut,
+          )
     ]
 
 words-cut : (rest bytes : List ℕ) (from : ℕ) → drop from bytes ≡ rest
@@ -319,9 +329,9 @@ chunk-byte : (from : ℕ) (bytes : List ℕ) (word : Word) (i : ℕ) → Chunk f
     → i < length word.text → is_blank (slice_index bytes (word.at + i)) ≡ false
 chunk-byte from bytes word i chunk lt =
     ap is_blank
-        (sym (get_or-drop word.at bytes i 0)
-        ∙ sym (get_or-take (length word.text) (drop word.at bytes) i 0 lt)
-        ∙ ap (λ (l : List ℕ). get_or l i 0) (sym chunk.stands)) ∙ chunk.no_blank i lt
+    (sym (get_or-drop word.at bytes i 0)
+    ∙ sym (get_or-take (length word.text) (drop word.at bytes) i 0 lt)
+    ∙ ap (λ (l : List ℕ). get_or l i 0) (sym chunk.stands)) ∙ chunk.no_blank i lt
 
 chunk-first : (from : ℕ) (bytes : List ℕ) (word : Word) → Chunk from bytes word
     → is_blank (slice_index bytes word.at) ≡ false
@@ -352,9 +362,12 @@ chunk-token from bytes word chunk edge = record {
   before = λ above.
       let le : from ≤ word.at = chunk.begins in
       let lt : from < word.at =
-          elim
-          (cases_eq from 0) [ inl e ↦ omega arith | inr ne ↦
-          chunk-later from bytes word chunk edge (omega arith) ] in
+      elim
+      (cases_eq from 0) [
+        | inl e ↦ omega arith
+        | inr ne ↦
+            chunk-later from bytes word chunk edge (omega arith)
+      ] in
       chunk.blanks (word.at - 1) (omega arith) (omega arith);
   behind = chunk.behind;
 }
@@ -366,19 +379,21 @@ cut-each [] from bytes cut edge k word stands =
     let none = drop-nil {A = Word} k in absurd cc
 cut-each (first ∷ words) from bytes cut edge zero word stands =
     let same : first ≡ word = cc in
-        subst (IsToken bytes) same (chunk-token from bytes first cut.0 edge)
+    subst (IsToken bytes) same (chunk-token from bytes first cut.0 edge)
 cut-each (first ∷ words) from bytes cut edge (suc k) word stands =
     cut-each words (first.at + length first.text) bytes cut.1 (λ above lt. cut.0.behind lt) k word
-        (let e : suc k + 1 ≡ suc (k + 1) = omega arith in stands
-        ∙ ap (λ n. word ∷ drop n (first ∷ words)) e)
+    (let e : suc k + 1 ≡ suc (k + 1) = omega arith in stands
+    ∙ ap (λ n. word ∷ drop n (first ∷ words)) e)
 
 cut-rise : (words : List Word) (from : ℕ) (bytes : List ℕ) → Cut from bytes words → Rise words
 cut-rise [] from bytes cut = tt
 cut-rise (word ∷ []) from bytes cut = tt
 cut-rise (word ∷ next ∷ words) from bytes cut =
-    let some : 0 < length word.text = cut.0.not_empty in
-    (chunk-later (word.at + length word.text) bytes next cut.1.0 (λ above lt. cut.0.behind lt)
-        (omega arith), cut-rise (next ∷ words) (word.at + length word.text) bytes cut.1)
+    let some : 0 < length word.text = cut.0.not_empty in (
+      chunk-later (word.at + length word.text) bytes next cut.1.0 (λ above lt. cut.0.behind lt)
+          (omega arith),
+      cut-rise (next ∷ words) (word.at + length word.text) bytes cut.1,
+    )
 
 cut-cover : (words : List Word) (from : ℕ) (bytes : List ℕ) → Cut from bytes words → (place : ℕ)
     → from ≤ place → place < length bytes → is_blank (slice_index bytes place) ≡ false
@@ -391,10 +406,15 @@ cut-cover (word ∷ words) from bytes cut place le lt none =
         | inl inside ↦ (0, word, omega arith, refl, from_it, inside)
         | inr behind ↦
             let found =
-                cut-cover words (word.at + length word.text) bytes cut.1 place behind lt none in
-            (suc found.0, found.1, omega (arith, found.2),
-                (let e : suc (found.0 + 1) ≡ suc found.0 + 1 = omega arith in found.3
-                ∙ ap (λ n. found.1 ∷ drop n (word ∷ words)) e), found.4, found.5)
+            cut-cover words (word.at + length word.text) bytes cut.1 place behind lt none in (
+              suc found.0,
+              found.1,
+              omega (arith, found.2),
+              (let e : suc (found.0 + 1) ≡ suc found.0 + 1 = omega arith in found.3
+                  ∙ ap (λ n. found.1 ∷ drop n (word ∷ words)) e),
+              found.4,
+              found.5,
+            )
       ]
     ]
 
@@ -414,5 +434,5 @@ pub words_from-token : (bytes : List ℕ) (place : ℕ) (word : Word) (words : L
 words_from-token bytes place word words edge stands =
     let cut = words-cut (drop place bytes) bytes place refl in
     let first : drop 0 (words_from place (drop place bytes)) ≡ word ∷ drop (0 + 1)
-        (words_from place (drop place bytes)) = rw stands refl in
+    (words_from place (drop place bytes)) = rw stands refl in
     cut-each (words_from place (drop place bytes)) place bytes cut edge 0 word first

@@ -13,14 +13,14 @@ pub text-set : (name : List ℕ) (change : List ℕ → List ℕ) (old new : Tol
     → text_of name new ≡ option_map change (text_of name old)
 text-set name change old new is = ap (option_map (λ files. unwrap_or (bytes_of files name) [])) is
     ∙ set old.held where
-  set : (held : Option Files)
-      → option_map (λ files. unwrap_or (bytes_of files name) [])
-      (sets_file name change held) ≡ option_map change
-      (option_map (λ files. unwrap_or (bytes_of files name) []) held)
-  set None = refl
-  set (Some files) =
-      ap (λ (o : Option (List ℕ)). Some (unwrap_or o []))
-      (bytes_set files name (change (unwrap_or (bytes_of files name) [])))
+      set : (held : Option Files)
+          → option_map (λ files. unwrap_or (bytes_of files name) [])
+          (sets_file name change held) ≡ option_map change
+          (option_map (λ files. unwrap_or (bytes_of files name) []) held)
+      set None = refl
+      set (Some files) =
+          ap (λ (o : Option (List ℕ)). Some (unwrap_or o []))
+          (bytes_set files name (change (unwrap_or (bytes_of files name) [])))
 
 -- nothing added
 pub adds_nothing : (name : List ℕ) (folder : Told) (writer : Waiting)
@@ -53,11 +53,14 @@ pub adds_then : (name first second : List ℕ) (one two three : Told) (u v w : W
 adds_then name first second one two three u v w p q = record {
   text = λ running.
       let was : v.failed ≡ false =
-          elim
-          (cases_Bool v.failed) [ inl failed ↦
-          absurd (both_ways _ running (q.stays_failed failed)) | inr ran ↦ ran ] in
+      elim
+      (cases_Bool v.failed) [
+        | inl failed ↦
+            absurd (both_ways _ running (q.stays_failed failed))
+        | inr ran ↦ ran
+      ] in
       q.text running ∙ ap (followed_by second) (p.text was)
-          ∙ followed_then first second (so_far name one u);
+      ∙ followed_then first second (so_far name one u);
   stays_failed = λ failed. q.stays_failed (p.stays_failed failed);
   cause = λ running failed.
       elim (cases_Bool v.failed) [
@@ -81,22 +84,25 @@ pub goes_on_then : (name piece : List ℕ) (one two : Told) (u v : Waiting)
     → Adds name piece one two u v → GoesOn name one u → GoesOn name two v
 goes_on_then name piece one two u v p before = λ running.
     p.made
-        ∙ before
-        (elim
-        (cases_Bool u.failed) [ inl failed ↦
-        absurd (both_ways _ running (p.stays_failed failed)) | inr ran ↦ ran ])
+    ∙ before
+    (elim
+    (cases_Bool u.failed) [
+      | inl failed ↦
+          absurd (both_ways _ running (p.stays_failed failed))
+      | inr ran ↦ ran
+    ])
 
 -- what waits is appended
 pub adds_flush : (name : List ℕ) (old new : Told) (before after : Waiting) → before.failed ≡ false
     → after ≡ record { bytes = []; failed = false }
     → new.held ≡ sets_file name (λ bytes. bytes ++ before.bytes) old.held
-        → OthersStay name old.held new.held → new.made ≡ old.made → old.faults ≤ new.faults
+    → OthersStay name old.held new.held → new.made ≡ old.made → old.faults ≤ new.faults
     → Adds name [] old new before after
 adds_flush name old new before after running empty held others made later =
     let text : so_far name new after ≡ followed_by [] (so_far name old before) =
     ap (λ (w : Waiting). so_far name new w) empty ∙ followed_none (text_of name new)
-        ∙ text-set name (λ bytes. bytes ++ before.bytes) old new held
-        ∙ sym (followed_none (so_far name old before)) in
+    ∙ text-set name (λ bytes. bytes ++ before.bytes) old new held
+    ∙ sym (followed_none (so_far name old before)) in
     record {
       text = λ ran. text;
       stays_failed = λ failed. absurd (both_ways _ running failed);
@@ -112,15 +118,15 @@ adds_flush name old new before after running empty held others made later =
 pub adds_direct : (name piece : List ℕ) (old new : Told) (before after : Waiting)
     → before ≡ record { bytes = []; failed = false } → after ≡ before
     → new.held ≡ sets_file name (λ bytes. bytes ++ piece) old.held
-        → OthersStay name old.held new.held → new.made ≡ old.made → old.faults ≤ new.faults
+    → OthersStay name old.held new.held → new.made ≡ old.made → old.faults ≤ new.faults
     → Adds name piece old new before after
 adds_direct name piece old new before after empty same held others made later =
     let text : so_far name new after ≡ followed_by piece (so_far name old before) =
     ap (λ (w : Waiting). so_far name new w) (same ∙ empty) ∙ followed_none (text_of name new)
-        ∙ text-set name (λ bytes. bytes ++ piece) old new held
+    ∙ text-set name (λ bytes. bytes ++ piece) old new held
     ∙ ap (followed_by piece)
-        (sym (followed_none (text_of name old))
-        ∙ ap (λ (w : Waiting). so_far name old w) (sym empty)) in
+    (sym (followed_none (text_of name old))
+    ∙ ap (λ (w : Waiting). so_far name old w) (sym empty)) in
     record {
       text = λ ran. text;
       stays_failed =
@@ -140,7 +146,7 @@ pub adds_kept : (name piece : List ℕ) (folder : Told) (before after : Waiting)
 adds_kept name piece folder before after is =
     let text : so_far name folder after ≡ followed_by piece (so_far name folder before) =
     ap (λ (w : Waiting). so_far name folder w) is
-        ∙ sym (followed_then before.bytes piece (text_of name folder)) in
+    ∙ sym (followed_then before.bytes piece (text_of name folder)) in
     let same : after.failed ≡ before.failed = ap (λ (w : Waiting). w.failed) is in
     record {
       text = λ ran. text;
@@ -155,7 +161,7 @@ adds_kept name piece folder before after is =
 pub adds_stopped : (name piece : List ℕ) (old new : Told) (before after : Waiting)
     → before.failed ≡ false → after.failed ≡ true
     → Rose old.faults new.faults → OthersStay name old.held new.held → new.made ≡ old.made
-        → old.faults ≤ new.faults
+    → old.faults ≤ new.faults
     → Adds name piece old new before after
 adds_stopped name piece old new before after running stopped rose others made later = record {
   text = λ ran. absurd (both_ways _ ran stopped);
@@ -169,7 +175,7 @@ adds_stopped name piece old new before after running stopped rose others made la
 -- what a name holds that was set
 pub held-set : (name : List ℕ) (change : List ℕ → List ℕ) (held : Option Files)
     → option_map (λ files. bytes_of files name) (sets_file name change held) ≡ option_map Some
-        (option_map change (option_map (λ files. unwrap_or (bytes_of files name) []) held))
+    (option_map change (option_map (λ files. unwrap_or (bytes_of files name) []) held))
 held-set name change None = refl
 held-set name change (Some files) =
     ap Some (bytes_set files name (change (unwrap_or (bytes_of files name) [])))
@@ -178,9 +184,9 @@ held-set name change (Some files) =
 pub finishes : (name piece : List ℕ) (old new : Told) (writer : Waiting) (failed : Bool)
     → writer.failed ≡ false → piece ≡ writer.bytes
     → (failed ≡ false → new.held ≡ sets_file name (λ bytes. bytes ++ piece) old.held)
-        → (failed ≡ true → Rose old.faults new.faults)
+    → (failed ≡ true → Rose old.faults new.faults)
     → OthersStay name old.held new.held → new.made ≡ old.made → old.faults ≤ new.faults
-        → Finishes name old new writer failed
+    → Finishes name old new writer failed
 finishes name piece old new writer failed running all held rose others made later = record {
   holds = λ ran. ap (option_map (λ files. bytes_of files name)) (held ran)
       ∙ held-set name (λ bytes. bytes ++ piece) old.held
@@ -205,11 +211,11 @@ set_is name text (Some old) (Some new) holds others = let is : bytes_of new name
 -- the text of a created name
 created : (name text : List ℕ) (held : Option Files)
     → option_map Some
-        (followed_by text
-        (followed_by []
-        (option_map (λ _. [])
-        (option_map (λ files. unwrap_or (bytes_of files name) []) held)))) ≡ option_map
-        (λ _. Some text) held
+    (followed_by text
+    (followed_by []
+    (option_map (λ _. [])
+    (option_map (λ files. unwrap_or (bytes_of files name) []) held)))) ≡ option_map
+    (λ _. Some text) held
 created name text None = refl
 created name text (Some files) = refl
 
@@ -220,21 +226,27 @@ pub is_written : (name text : List ℕ) (before started ended after : Told) (fir
     → Finishes name ended after last false → after.held ≡ sets_file name (λ _. text) before.held
 is_written name text before started ended after first last new adds end =
     let ran : last.failed ≡ false =
-        elim
-        (cases_Bool last.failed) [ inl failed ↦
-        absurd (both_ways _ refl (end.stays_failed failed)) | inr ran ↦ ran ] in
+    elim
+    (cases_Bool last.failed) [
+      | inl failed ↦
+          absurd (both_ways _ refl (end.stays_failed failed))
+      | inr ran ↦ ran
+    ] in
     let began : first.failed ≡ false =
-        elim
-        (cases_Bool first.failed) [ inl failed ↦
-        absurd (both_ways _ ran (adds.stays_failed failed)) | inr ran ↦ ran ] in
+    elim
+    (cases_Bool first.failed) [
+      | inl failed ↦
+          absurd (both_ways _ ran (adds.stays_failed failed))
+      | inr ran ↦ ran
+    ] in
     let start : so_far name started first ≡ followed_by []
-        (option_map (λ _. []) (text_of name before)) =
+    (option_map (λ _. []) (text_of name before)) =
     (λ i. followed_by (new.none_wait i)
-        (text-set name (λ _. []) before started (new.empty began) i)) in
+    (text-set name (λ _. []) before started (new.empty began) i)) in
     let holds : option_map (λ files. bytes_of files name) after.held ≡ option_map
-        (λ _. Some text) before.held =
+    (λ _. Some text) before.held =
     end.holds refl ∙ ap (option_map Some) (adds.text ran ∙ ap (followed_by text) start)
-        ∙ created name text before.held in
+    ∙ created name text before.held in
     set_is name text before.held after.held holds
     (others_then name before.held ended.held after.held
-        (others_then name before.held started.held ended.held new.others adds.others) end.others)
+    (others_then name before.held started.held ended.held new.others adds.others) end.others)

@@ -11,4 +11,4 @@ returns-in-Err-Wrong-clause-gives g c =
     let wrong = rw (c.in-Err-Wrong.field-0-is, same) at c.in-Err-Wrong.ensures.gives in
     let only = rw (c.in-Err-Wrong.field-0-is, same) at c.in-Err-Wrong.ensures.only in
     wrong_input (g.F.Folder.held c.args.folder.now) c.args.name.now bytes c.in-Err-Wrong.at c.in-Err-Wrong.kind c.in-Ok.ensures.whole short
-      wrong (λ text reads. not_read text c.in-Err-Wrong.at c.in-Err-Wrong.kind (only text reads))
+    wrong (λ text reads. not_read text c.in-Err-Wrong.at c.in-Err-Wrong.kind (only text reads))

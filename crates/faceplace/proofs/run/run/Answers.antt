@@ -9,4 +9,4 @@ returns-clause-complete g c = λ input output files text asked held holds steady
     let before : Outside = outside (g.F.Folder.held c.args.folder.now) (g.S.Sink.written c.args.out.now) (g.F.Folder.faults c.args.folder.now) (g.S.Sink.faults c.args.out.now) in
     let after : Outside = outside (g.F.Folder.held c.serve.new.folder) (g.S.Sink.written c.serve.new.out) (g.F.Folder.faults c.serve.new.folder) (g.S.Sink.faults c.serve.new.out) in
     rw c.code.ensures (seeded input output files text (code_of c.serve.result) before after held holds steady quiet
-      (subst (λ request. EndsAs request (code_of c.serve.result) before after) asked c.serve.ensures))
+    (subst (λ request. EndsAs request (code_of c.serve.result) before after) asked c.serve.ensures))

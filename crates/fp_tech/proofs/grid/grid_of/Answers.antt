@@ -1,4 +1,3 @@
-use Rattle.std.proofs.Common.{◌≤◌, ◌<◌, arith}
 use Rattle.fp_tech.specs.Slots.{grid_with}
 use Rattle.fp_tech.specs.SlotsLaws.{counts_exact, slot_keeps_edges, slots_apart}
 use Rattle.fp_tech.proofs.grid.grid_of.Goals as goal

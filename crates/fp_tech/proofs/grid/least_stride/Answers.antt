@@ -1,4 +1,4 @@
-use Rattle.std.proofs.Common.{rules, ◌≤◌, ◌<◌, arith}
+use Rattle.std.proofs.Common.{rules, arith}
 use Rattle.fp_tech.proofs.GridLemmas.{least_more, few_at_widest}
 use Rattle.fp_tech.proofs.grid.least_stride.Goals as goal
 

@@ -1,16 +1,13 @@
-use Rattle.std.proofs.Common.{rules, ◌≡◌, ◌==◌, ◌+◌, ◌<◌, ◌≤◌, ◌^◌, ◌∙◌, ◌++◌, ◌∷◌, [], true, false, refl, ap, sym, subst, Some, None, IsTrue, IsSome, is_some, length, find, map, take, unwrap_or, slice_get, get_or, arith}
-use Rattle.std.specs.Prelude.{slice_set, nat_eq}
-use Rattle.std.specs.List.{IsDistinct}
-use Rattle.std.specs.Option.{option_map}
+use Rattle.std.proofs.Common.{◌≡◌, ◌==◌, ◌<◌, ◌≤◌, ◌^◌, ◌∙◌, ◌++◌, ◌∷◌, [], false, refl, ap, sym, subst, length, find, map, unwrap_or, arith}
+use Rattle.std.specs.Prelude.{slice_set}
 use Rattle.std.proofs.lemmas.Grind.{common_steps}
 use Rattle.std.proofs.lemmas.List.{length-map, set-get_or}
 use Rattle.fp_base.specs.declared.ids.LibId.{LibId}
-use Rattle.fp_tech.specs.Book.{Lib, Tech, tech_names, libs_of, lib_in, place_of, has_name, id_for, with_tech, with_lib, with_pin, tech_refusal, lib_refusal, pin_refusal, IsTech}
-use Rattle.fp_tech.specs.BookLaws.{number_free, libs_within, libs_at}
-use Rattle.fp_tech.proofs.BookLemmas.{seen, has_in_range}
-use Rattle.fp_tech.proofs.AddingLemmas.{IsKeptAs, tech_added, lib_added, pin_added, taken_back, name_taken_back, none_from, nothing_refused, same_kept, number_small}
+use Rattle.fp_tech.specs.Book.{Lib, libs_of, place_of, has_name, id_for, with_lib}
+use Rattle.fp_tech.specs.BookLaws.{number_free}
+use Rattle.fp_tech.proofs.BookLemmas.{seen}
+use Rattle.fp_tech.proofs.AddingLemmas.{IsKeptAs, lib_added, name_taken_back, nothing_refused, same_kept, number_small}
 use Rattle.fp_tech.proofs.book.TechBook.add_lib.Goals as goal
-
 
 pub overflow_cast-id : goal.overflow_cast-id
 overflow_cast-id c =
@@ -58,9 +55,13 @@ invariant_of-self-then-is_err c = (back c).kept
 
 room : (c : goal.Else-is_err) → length (libs_of c.args.self.now c.args.tech.0) < 4096
 room c =
-    omega (arith, ap length c.libs_of.ensures, c.if-libs_of-ge-LIBS.false,
-           length-map {B = LibId} (map (λ (lib : Lib). lib.id) (libs_of c.args.self.now c.args.tech.0)) (λ id. record { 0 = id }),
-           length-map (libs_of c.args.self.now c.args.tech.0) (λ (lib : Lib). lib.id))
+    omega (
+      arith,
+      ap length c.libs_of.ensures,
+      c.if-libs_of-ge-LIBS.false,
+      length-map {B = LibId} (map (λ (lib : Lib). lib.id) (libs_of c.args.self.now c.args.tech.0)) (λ id. record { 0 = id }),
+      length-map (libs_of c.args.self.now c.args.tech.0) (λ (lib : Lib). lib.id),
+    )
 
 added : (c : goal.Else-is_err) → IsKeptAs c.place_or_push.new.self c.self.inside.tech_names (slice_set c.self.inside.techs.items c.args.tech.0 c.push.new.self)
     (with_lib c.args.self.now c.args.tech.0 c.args.name.now c.args.width c.args.height)
@@ -80,7 +81,8 @@ invariant_of-self-else-is_err c = (added c).kept
 
 pub returns : goal.returns
 returns c =
-    let s = seen _ _ _ _ c.self.invariant c.self.view_is in
-    (nothing_refused (length (libs_of c.args.self.now c.args.tech.0)) 4096 _ (room c) (sym c.has_name.ensures ∙ c.if-has_name.false),
-     ap (λ n. record { 0 = n }) (c.in_ok-place.ensures.place ∙ ap (λ ns. unwrap_or (place_of c.args.name.now ns) (length ns)) s.names_are),
-     (added c).view)
+    let s = seen _ _ _ _ c.self.invariant c.self.view_is in (
+      nothing_refused (length (libs_of c.args.self.now c.args.tech.0)) 4096 _ (room c) (sym c.has_name.ensures ∙ c.if-has_name.false),
+      ap (λ n. record { 0 = n }) (c.in_ok-place.ensures.place ∙ ap (λ ns. unwrap_or (place_of c.args.name.now ns) (length ns)) s.names_are),
+      (added c).view,
+    )

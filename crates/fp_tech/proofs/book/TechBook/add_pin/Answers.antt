@@ -1,15 +1,11 @@
-use Rattle.std.proofs.Common.{rules, ◌≡◌, ◌==◌, ◌+◌, ◌<◌, ◌≤◌, ◌^◌, ◌∙◌, ◌++◌, ◌∷◌, [], true, false, refl, ap, sym, subst, Some, None, IsTrue, IsSome, is_some, length, find, map, take, unwrap_or, slice_get, get_or, arith}
-use Rattle.std.specs.Prelude.{slice_set, nat_eq}
+use Rattle.std.proofs.Common.{◌≡◌, ◌==◌, ◌∙◌, sym, subst, IsSome, find, map, arith}
+use Rattle.std.specs.Prelude.{nat_eq}
 use Rattle.std.specs.List.{IsDistinct}
-use Rattle.std.specs.Option.{option_map}
-use Rattle.std.proofs.lemmas.Grind.{common_steps}
-use Rattle.std.proofs.lemmas.List.{length-map, set-get_or}
-use Rattle.fp_tech.specs.Book.{Lib, Tech, tech_names, libs_of, lib_in, place_of, has_name, id_for, with_tech, with_lib, with_pin, tech_refusal, lib_refusal, pin_refusal, IsTech}
-use Rattle.fp_tech.specs.BookLaws.{number_free, libs_within, libs_at}
+use Rattle.fp_tech.specs.Book.{Lib, libs_of, lib_in}
+use Rattle.fp_tech.specs.BookLaws.{libs_within, libs_at}
 use Rattle.fp_tech.proofs.BookLemmas.{seen, has_in_range}
-use Rattle.fp_tech.proofs.AddingLemmas.{IsKeptAs, tech_added, lib_added, pin_added_at, taken_back, name_taken_back, none_from, nothing_refused, same_kept}
+use Rattle.fp_tech.proofs.AddingLemmas.{pin_added_at}
 use Rattle.fp_tech.proofs.book.TechBook.add_pin.Goals as goal
-
 
 pub index_mut-library-requires : goal.index_mut-library-requires
 index_mut-library-requires c =
@@ -37,12 +33,11 @@ add_pin-requires-clause-apart c =
 pub invariant_of-self : goal.invariant_of-self
 invariant_of-self c =
     (pin_added_at c.self.inside.lib_names c.self.inside.tech_names c.self.inside.techs.items c.args.self.now c.args.tech.0 c.args.lib.0
-     (record { name = c.args.name.now; x = c.args.x; y = c.args.y }) c.index_mut-library.result.now c.add_pin.new.self c.add_pin.result
-     c.self.invariant c.self.view_is c.requires.there c.requires.x c.requires.y c.index_mut-library.ensures.value c.add_pin.ensures).0
+    (record { name = c.args.name.now; x = c.args.x; y = c.args.y }) c.index_mut-library.result.now c.add_pin.new.self c.add_pin.result
+    c.self.invariant c.self.view_is c.requires.there c.requires.x c.requires.y c.index_mut-library.ensures.value c.add_pin.ensures).0
 
 pub returns : goal.returns
 returns c =
     (pin_added_at c.self.inside.lib_names c.self.inside.tech_names c.self.inside.techs.items c.args.self.now c.args.tech.0 c.args.lib.0
-     (record { name = c.args.name.now; x = c.args.x; y = c.args.y }) c.index_mut-library.result.now c.add_pin.new.self c.add_pin.result
-     c.self.invariant c.self.view_is c.requires.there c.requires.x c.requires.y c.index_mut-library.ensures.value c.add_pin.ensures).1
-
+    (record { name = c.args.name.now; x = c.args.x; y = c.args.y }) c.index_mut-library.result.now c.add_pin.new.self c.add_pin.result
+    c.self.invariant c.self.view_is c.requires.there c.requires.x c.requires.y c.index_mut-library.ensures.value c.add_pin.ensures).1

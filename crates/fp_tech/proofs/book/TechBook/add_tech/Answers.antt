@@ -1,15 +1,9 @@
-use Rattle.std.proofs.Common.{rules, ◌≡◌, ◌==◌, ◌+◌, ◌<◌, ◌≤◌, ◌^◌, ◌∙◌, ◌++◌, ◌∷◌, [], true, false, refl, ap, sym, subst, Some, None, IsTrue, IsSome, is_some, length, find, map, take, unwrap_or, slice_get, get_or, arith}
-use Rattle.std.specs.Prelude.{slice_set, nat_eq}
-use Rattle.std.specs.List.{IsDistinct}
-use Rattle.std.specs.Option.{option_map}
+use Rattle.std.proofs.Common.{◌≡◌, ◌<◌, ◌∙◌, ◌++◌, ◌∷◌, [], refl, ap, sym, None, is_some, length, arith}
 use Rattle.std.proofs.lemmas.Grind.{common_steps}
-use Rattle.std.proofs.lemmas.List.{length-map, set-get_or}
-use Rattle.fp_tech.specs.Book.{Lib, Tech, tech_names, libs_of, lib_in, place_of, has_name, id_for, with_tech, with_lib, with_pin, tech_refusal, lib_refusal, pin_refusal, IsTech}
-use Rattle.fp_tech.specs.BookLaws.{number_free, libs_within, libs_at}
-use Rattle.fp_tech.proofs.BookLemmas.{seen, has_in_range}
-use Rattle.fp_tech.proofs.AddingLemmas.{IsKeptAs, tech_added, lib_added, pin_added, taken_back, name_taken_back, none_from, nothing_refused, same_kept}
+use Rattle.fp_tech.specs.Book.{tech_names, place_of, with_tech}
+use Rattle.fp_tech.proofs.BookLemmas.{seen}
+use Rattle.fp_tech.proofs.AddingLemmas.{IsKeptAs, tech_added, taken_back, none_from, nothing_refused, same_kept}
 use Rattle.fp_tech.proofs.book.TechBook.add_tech.Goals as goal
-
 
 pub push-requires : goal.push-requires
 push-requires c =

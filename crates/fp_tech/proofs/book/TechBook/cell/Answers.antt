@@ -1,4 +1,4 @@
-use Rattle.std.proofs.Common.{◌≡◌, rules, sym}
+use Rattle.std.proofs.Common.{rules}
 use Rattle.fp_tech.specs.Book.{lib_in}
 use Rattle.fp_tech.specs.BookLaws.{cell_within}
 use Rattle.fp_tech.proofs.BookLemmas.{pins_are}

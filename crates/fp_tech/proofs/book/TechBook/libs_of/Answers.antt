@@ -1,4 +1,4 @@
-use Rattle.std.proofs.Common.{◌≡◌, ◌∙◌, ap, sym, map}
+use Rattle.std.proofs.Common.{◌∙◌, ap, sym, map}
 use Rattle.std.proofs.lemmas.Simd.{map-map}
 use Rattle.fp_base.specs.declared.ids.LibId.{LibId}
 use Rattle.fp_tech.specs.Book.{Lib, libs_of}

@@ -1,7 +1,6 @@
-use Rattle.std.proofs.Common.{rules, ◌≡◌, ◌<◌, ◌≤◌, ◌^◌, ◌∙◌, refl, ap, sym, Some, length, slice_get, arith}
+use Rattle.std.proofs.Common.{rules, ◌∙◌, ap, arith}
 use Rattle.std.specs.Option.{option_map}
-use Rattle.std.proofs.lemmas.Grind.{common_steps}
-use Rattle.fp_tech.specs.Book.{tech_names, libs_of, place_of}
+use Rattle.fp_tech.specs.Book.{place_of}
 use Rattle.fp_tech.proofs.BookLemmas.{seen}
 use Rattle.fp_tech.proofs.book.TechBook.tech_named.Goals as goal
 

@@ -1,7 +1,4 @@
-use Rattle.std.proofs.Common.{rules, ◌≡◌, ◌<◌, ◌≤◌, ◌^◌, ◌∙◌, refl, ap, sym, Some, length, slice_get, arith}
-use Rattle.std.specs.Option.{option_map}
-use Rattle.std.proofs.lemmas.Grind.{common_steps}
-use Rattle.fp_tech.specs.Book.{tech_names, libs_of, place_of}
+use Rattle.std.proofs.Common.{arith}
 use Rattle.fp_tech.proofs.BookLemmas.{seen}
 use Rattle.fp_tech.proofs.book.TechBook.techs.Goals as goal
 

@@ -1,8 +1,6 @@
-use Rattle.std.proofs.Common.{◌≡◌, ℕ, ◌+◌, ◌*◌, ◌/◌, ◌%◌, ◌≤◌, ◌^◌, arith, ap, pos}
+use Rattle.std.proofs.Common.{arith}
 use Rattle.std.proofs.lemmas.Int.{ints}
-use Rattle.fp_base.specs.declared.ids.Point.{Point}
-use Rattle.fp_tech.specs.Slots.{centre_of}
-use Rattle.fp_tech.proofs.GridLemmas.{IsPlaced, slot_placed, same_point}
+use Rattle.fp_tech.proofs.GridLemmas.{slot_placed, same_point}
 use Rattle.fp_tech.proofs.grid.Grid.centre.Goals as goal
 
 pub place-x-requires : goal.place-x-requires

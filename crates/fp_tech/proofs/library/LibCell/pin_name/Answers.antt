@@ -1,4 +1,4 @@
-use Rattle.std.proofs.Common.{◌≡◌, ◌∙◌, sym, ap, map, slice_get, Some}
+use Rattle.std.proofs.Common.{◌∙◌, sym, ap, map, slice_get, Some}
 use Rattle.std.specs.Option.{option_map}
 use Rattle.std.proofs.lemmas.Option.{slice_get-map}
 use Rattle.fp_tech.specs.Book.{Pin, Lib, names_of}

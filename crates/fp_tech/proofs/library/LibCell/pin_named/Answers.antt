@@ -1,4 +1,4 @@
-use Rattle.std.proofs.Common.{◌≡◌, ◌∙◌, ap}
+use Rattle.std.proofs.Common.{◌∙◌, ap}
 use Rattle.fp_tech.specs.Book.{place_of, pin_names}
 use Rattle.fp_tech.proofs.NameLemmas.{pin_found}
 use Rattle.fp_tech.proofs.library.LibCell.pin_named.Goals as goal

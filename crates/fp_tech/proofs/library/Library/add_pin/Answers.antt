@@ -1,7 +1,5 @@
-use Rattle.std.proofs.Common.{◌≡◌, ◌==◌, ◌∙◌, Some, IsSome, ap, sym, subst, find, map, refl, length, slice_get, arith, ℕ}
-use Rattle.std.specs.Prelude.{nat_eq}
-use Rattle.std.specs.List.{IsDistinct}
-use Rattle.fp_tech.specs.Book.{Lib, pins_refusal, Adds}
+use Rattle.std.proofs.Common.{◌≡◌, ◌==◌, ◌∙◌, Some, IsSome, sym, subst, find, refl, slice_get}
+use Rattle.fp_tech.specs.Book.{Lib}
 use Rattle.fp_tech.proofs.LibraryLemmas.{place_there, at_place, cell_there, adds_at, id_kept, ids_kept}
 use Rattle.fp_tech.proofs.library.Library.add_pin.Goals as goal
 
@@ -22,7 +20,7 @@ pub invariant_of-self : goal.invariant_of-self
 invariant_of-self c =
     c.self.invariant
     ∙ sym (ids_kept c.self.inside.cells.items c.unwrap-place.result c.index_mut-cell.result.now c.add_pin.new.self (stands c)
-           (id_kept _ c.index_mut-cell.result.now _ c.add_pin.new.self c.add_pin.result refl c.add_pin.ensures))
+    (id_kept _ c.index_mut-cell.result.now _ c.add_pin.new.self c.add_pin.result refl c.add_pin.ensures))
 
 pub returns : goal.returns
 returns c =

@@ -1,6 +1,5 @@
-use Rattle.std.proofs.Common.{◌≡◌, ◌<◌, ◌∙◌, ◌==◌, Some, find, ap, sym, length, arith}
+use Rattle.std.proofs.Common.{◌<◌, ◌∙◌, ◌==◌, Some, find, ap, sym, length, arith}
 use Rattle.std.proofs.lemmas.Grind.{common_steps}
-use Rattle.std.proofs.lemmas.List.{length-map}
 use Rattle.std.proofs.lemmas.Option.{slice_get-get_or}
 use Rattle.fp_tech.specs.Book.{Lib}
 use Rattle.fp_tech.proofs.LibraryLemmas.{cell_there, none_there}

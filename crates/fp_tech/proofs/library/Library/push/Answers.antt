@@ -10,5 +10,5 @@ invariant_of-self-else-is_err c =
     let grown : c.push.new.self.items ≡ c.self.inside.cells.items ++ c.args.cell ∷ [] = grind (arith, common_steps) in
     c.in_ok-insert.ensures.keys
     ∙ ids_pushed c.self.inside.cells.items c.self.inside.ids.keys c.id.result c.args.cell c.id.ensures c.self.invariant
-      (subst (λ libs. find (λ (lib : Lib). lib.id == c.args.cell.id) libs ≡ None) (sym c.self.view_is) c.requires)
+    (subst (λ libs. find (λ (lib : Lib). lib.id == c.args.cell.id) libs ≡ None) (sym c.self.view_is) c.requires)
     ∙ ap (map id_of) (sym grown)

@@ -1,4 +1,4 @@
-use Rattle.std.proofs.Common.{◌≡◌, ◌∙◌, ap}
+use Rattle.std.proofs.Common.{◌∙◌, ap}
 use Rattle.fp_tech.specs.Book.{place_of}
 use Rattle.fp_tech.proofs.NameLemmas.{place_found}
 use Rattle.fp_tech.proofs.names.Names.place.Goals as goal

@@ -1,4 +1,4 @@
-use Rattle.std.proofs.Common.{◌≡◌, ◌∙◌, ap, map}
+use Rattle.std.proofs.Common.{◌∙◌, ap, map}
 use Rattle.fp_tech.proofs.NameLemmas.{pushed}
 use Rattle.fp_tech.proofs.names.Names.push.Goals as goal
 

@@ -1,4 +1,4 @@
-use Rattle.std.proofs.Common.{◌≡◌, ◌∙◌, ap, sym, map, take}
+use Rattle.std.proofs.Common.{◌∙◌, ap, sym, map, take}
 use Rattle.std.proofs.lemmas.List.{take-map}
 use Rattle.fp_tech.proofs.names.Names.truncate.Goals as goal
 

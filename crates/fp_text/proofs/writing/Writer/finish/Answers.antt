@@ -16,5 +16,8 @@ pub returns-clause-finishes : goal.returns-clause-finishes
 returns-clause-finishes g c =
     let view = c.self.view_is in
     let append = c.append.ensures in
-    finishes c.args.name.now _ _ _ c.args.self _ (sym (ap (λ (w : Waiting). w.failed) view) ∙ c.if-self.false) (ap (λ (w : Waiting). w.bytes) view)
-    (from_ok c.append.result append.appended) (from_err c.append.result append.cause) append.others append.made append.later
+    finishes c.args.name.now _ _ _ c.args.self _
+    (sym (ap (λ (w : Waiting). w.failed) view) ∙ c.if-self.false)
+    (ap (λ (w : Waiting). w.bytes) view)
+    (from_ok c.append.result append.appended)
+    (from_err c.append.result append.cause) append.others append.made append.later

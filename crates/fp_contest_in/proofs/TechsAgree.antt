@@ -11,6 +11,7 @@ use Rattle.fp_tech.specs.Book.{Pin, is_among}
 use Rattle.fp_contest_in.specs.Text.{LibText, TechText, pin_name_list, lib_name_list, tech_name_list}
 use Rattle.fp_contest_in.specs.Grammar.{Keyword, Named, Numbers, Ranged, IsNew, IsNewPin, IsNewLib, IsNewTech, any_number, ranged, most_number, IsPin, IsLib, IsTech, AreTechs}
 use Rattle.fp_contest_in.specs.Statements.{new_name_next, pin_next, sizes_next, lib_next, tech_next, techs_next}
+use Rattle.fp_contest_in.specs.Growing.{pin_item, lib_item, tech_item}
 use Rattle.fp_contest_in.proofs.Taken.{keyword_ok, keyword_again, name_ok, name_again, number_ok, number_again, count_is, spells_as}
 
 -- an item that was read stands in the words, and one that stands there is read
@@ -39,9 +40,6 @@ new_name_again before l name rest n new =
 
 -- ---- pins
 
-abbrev pin_item : List Pin → Left → Read Pin
-pin_item pins = pin_next (pin_name_list pins)
-
 pin_ok : ItemOk IsNewPin pin_item
 unfolding pin_next
 pin_ok before l pin r e =
@@ -54,14 +52,19 @@ pin_ok before l pin r e =
     let x_at = number_ok 0 most_number kinds.Range n.0.1 x.0.0 x.0.1 x.1 in
     let y_at = number_ok 0 most_number kinds.Range x.0.1 y.0.0 y.0.1 y.1 in
     let read : ◌≡◌ {A = Pin × Left} (record { name = n.0.0; x = x.0.0; y = y.0.0 }, y.0.1) (pin, r) = cc in
-    subst (λ (p : Pin × Left). IsNewPin before p.0 l.words p.1.words × (p.1.bytes ≡ l.bytes)) read
-      ((record {
-        after_keyword = k.0.1.words;
-        after_name = n.0.1.words;
-        keyword = keyword.0;
-        name = name.0;
-        offset = (x_at.0.0, x.0.1.words, x_at.0.1, x_at.0.2, (y_at.0.0, y.0.1.words, y_at.0.1, y_at.0.2, refl));
-      }, name.1), y_at.1 ∙ x_at.1 ∙ name.2 ∙ keyword.1)
+    subst (λ (p : Pin × Left). IsNewPin before p.0 l.words p.1.words × (p.1.bytes ≡ l.bytes)) read (
+      (
+        record {
+          after_keyword = k.0.1.words;
+          after_name = n.0.1.words;
+          keyword = keyword.0;
+          name = name.0;
+          offset = (x_at.0.0, x.0.1.words, x_at.0.1, x_at.0.2, (y_at.0.0, y.0.1.words, y_at.0.1, y_at.0.2, refl));
+        },
+        name.1,
+      ),
+      y_at.1 ∙ x_at.1 ∙ name.2 ∙ keyword.1,
+    )
 
 pin_again : ItemAgain IsNewPin pin_item
 unfolding pin_next
@@ -89,7 +92,7 @@ sizes_ok l sizes r e =
     let h_at = number_ok 1 most_number kinds.Range w.0.1 h.0.0 h.0.1 h.1 in
     let read : ◌≡◌ {A = (ℕ × ℕ) × Left} ((w.0.0, h.0.0), h.0.1) (sizes, r) = cc in
     subst (λ (p : (ℕ × ℕ) × Left). TwoSizes p.0 l.words p.1.words × (p.1.bytes ≡ l.bytes)) read
-      ((w_at.0.0, w.0.1.words, w_at.0.1, w_at.0.2, (h_at.0.0, h.0.1.words, h_at.0.1, h_at.0.2, refl)), h_at.1 ∙ w_at.1)
+    ((w_at.0.0, w.0.1.words, w_at.0.1, w_at.0.2, (h_at.0.0, h.0.1.words, h_at.0.1, h_at.0.2, refl)), h_at.1 ∙ w_at.1)
 
 pub sizes_again : (l : Left) (sizes : ℕ × ℕ) (rest : List Word) → TwoSizes sizes l.words rest → sizes_next l ≡ Ok (sizes, left_of l rest)
 unfolding sizes_next
@@ -98,9 +101,6 @@ sizes_again l sizes rest t =
     let w_at = number_again 1 most_number kinds.Range l sizes.0 t.1 (t.0, t.2, t.3) (omega arith) in
     let h_at = number_again 1 most_number kinds.Range (left_of l t.1) sizes.1 rest (h.0, h.2 ∙ ap (λ (ws : List Word). h.0 ∷ ws) h.4, h.3) (omega arith) in
     rw (w_at, h_at) refl
-
-abbrev lib_item : List LibText → Left → Read LibText
-lib_item libs = lib_next (lib_name_list libs)
 
 lib_ok : ItemOk IsNewLib lib_item
 unfolding lib_next
@@ -118,16 +118,21 @@ lib_ok before l lib r e =
     let read : ◌≡◌ {A = LibText × Left} (record { name = n.0.0; width = s.0.0.0; height = s.0.0.1; pins = p.0.0 }, p.0.1) (lib, r) = cc in
     let counted : Spells 0 1024 count.0.0.text (length p.0.0) = spells_as 0 1024 _ _ _ (count_is p.0.0 pins.items c.0.0 pins.whole pins.count_is) count.0.2 in
     let h = sizes.0.4 in
-    subst (λ (q : LibText × Left). IsNewLib before q.0 l.words q.1.words × (q.1.bytes ≡ l.bytes)) read
-      ((record {
-        after_keyword = k.0.1.words;
-        after_name = n.0.1.words;
-        after_count = c.0.1.words;
-        keyword = keyword.0;
-        name = name.0;
-        numbers = (sizes.0.0, sizes.0.1, sizes.0.2, sizes.0.3, (h.0, h.1, h.2, h.3, (count.0.0, c.0.1.words, h.4 ∙ count.0.1, counted, refl)));
-        items = subst (λ (ps : List Pin). Each IsNewPin [] ps c.0.1.words p.0.1.words) (sym pins.whole) pins.each;
-      }, name.1), pins.bytes ∙ count.1 ∙ sizes.1 ∙ name.2 ∙ keyword.1)
+    subst (λ (q : LibText × Left). IsNewLib before q.0 l.words q.1.words × (q.1.bytes ≡ l.bytes)) read (
+      (
+        record {
+          after_keyword = k.0.1.words;
+          after_name = n.0.1.words;
+          after_count = c.0.1.words;
+          keyword = keyword.0;
+          name = name.0;
+          numbers = (sizes.0.0, sizes.0.1, sizes.0.2, sizes.0.3, (h.0, h.1, h.2, h.3, (count.0.0, c.0.1.words, h.4 ∙ count.0.1, counted, refl)));
+          items = subst (λ (ps : List Pin). Each IsNewPin [] ps c.0.1.words p.0.1.words) (sym pins.whole) pins.each;
+        },
+        name.1,
+      ),
+      pins.bytes ∙ count.1 ∙ sizes.1 ∙ name.2 ∙ keyword.1,
+    )
 
 lib_again : ItemAgain IsNewLib lib_item
 unfolding lib_next
@@ -144,9 +149,6 @@ lib_again before l lib rest (p, new) =
 
 -- ---- technologies
 
-abbrev tech_item : List TechText → Left → Read TechText
-tech_item techs = tech_next (tech_name_list techs)
-
 tech_ok : ItemOk IsNewTech tech_item
 unfolding tech_next
 tech_ok before l tech r e =
@@ -160,16 +162,21 @@ tech_ok before l tech r e =
     let libs = many_ok lib_item IsNewLib lib_ok c.0.0 [] c.0.1 p.0.0 p.0.1 p.1 in
     let read : ◌≡◌ {A = TechText × Left} (record { name = n.0.0; libs = p.0.0 }, p.0.1) (tech, r) = cc in
     let counted : Spells 0 4096 count.0.0.text (length p.0.0) = spells_as 0 4096 _ _ _ (count_is p.0.0 libs.items c.0.0 libs.whole libs.count_is) count.0.2 in
-    subst (λ (q : TechText × Left). IsNewTech before q.0 l.words q.1.words × (q.1.bytes ≡ l.bytes)) read
-      ((record {
-        after_keyword = k.0.1.words;
-        after_name = n.0.1.words;
-        after_count = c.0.1.words;
-        keyword = keyword.0;
-        name = name.0;
-        count = (count.0.0, c.0.1.words, count.0.1, counted, refl);
-        items = subst (λ (ps : List LibText). Each IsNewLib [] ps c.0.1.words p.0.1.words) (sym libs.whole) libs.each;
-      }, name.1), libs.bytes ∙ count.1 ∙ name.2 ∙ keyword.1)
+    subst (λ (q : TechText × Left). IsNewTech before q.0 l.words q.1.words × (q.1.bytes ≡ l.bytes)) read (
+      (
+        record {
+          after_keyword = k.0.1.words;
+          after_name = n.0.1.words;
+          after_count = c.0.1.words;
+          keyword = keyword.0;
+          name = name.0;
+          count = (count.0.0, c.0.1.words, count.0.1, counted, refl);
+          items = subst (λ (ps : List LibText). Each IsNewLib [] ps c.0.1.words p.0.1.words) (sym libs.whole) libs.each;
+        },
+        name.1,
+      ),
+      libs.bytes ∙ count.1 ∙ name.2 ∙ keyword.1,
+    )
 
 tech_again : ItemAgain IsNewTech tech_item
 unfolding tech_next
@@ -190,14 +197,16 @@ techs_ok l techs r e =
     let keyword = keyword_ok (codes "NumTechnologies") l k.0.0 k.0.1 k.1 in
     let count = number_ok 1 16 kinds.Limit k.0.1 c.0.0 c.0.1 c.1 in
     let items = many_ok tech_item IsNewTech tech_ok c.0.0 [] c.0.1 techs r c.2 in
-    let counted : Spells 1 16 count.0.0.text (length techs) = spells_as 1 16 _ _ _ (count_is techs items.items c.0.0 items.whole items.count_is) count.0.2 in
-    (record {
-      after_keyword = k.0.1.words;
-      after_count = c.0.1.words;
-      keyword = keyword.0;
-      count = (count.0.0, c.0.1.words, count.0.1, counted, refl);
-      items = subst (λ (ps : List TechText). Each IsNewTech [] ps c.0.1.words r.words) (sym items.whole) items.each;
-    }, items.bytes ∙ count.1 ∙ keyword.1)
+    let counted : Spells 1 16 count.0.0.text (length techs) = spells_as 1 16 _ _ _ (count_is techs items.items c.0.0 items.whole items.count_is) count.0.2 in (
+      record {
+        after_keyword = k.0.1.words;
+        after_count = c.0.1.words;
+        keyword = keyword.0;
+        count = (count.0.0, c.0.1.words, count.0.1, counted, refl);
+        items = subst (λ (ps : List TechText). Each IsNewTech [] ps c.0.1.words r.words) (sym items.whole) items.each;
+      },
+      items.bytes ∙ count.1 ∙ keyword.1,
+    )
 
 pub techs_again : (l : Left) (techs : List TechText) (rest : List Word) → AreTechs techs l.words rest → techs_next l ≡ Ok (techs, left_of l rest)
 unfolding techs_next

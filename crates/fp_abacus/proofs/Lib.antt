@@ -1,0 +1,11 @@
+pub mod Sums
+pub mod Joins
+pub mod Tight
+pub mod Places
+pub mod Levels
+pub mod Spans
+pub mod Adding
+pub mod Packing
+pub mod Needs
+pub mod Whole
+pub mod Mixed

@@ -1,0 +1,3 @@
+pub mod Duals
+pub mod Clusters
+pub mod Stacks
