@@ -1,0 +1,6 @@
+pub mod Prices
+pub mod PriceLaws
+pub mod Owners
+pub mod OwnerLaws
+pub mod Clashes
+pub mod Chosen
