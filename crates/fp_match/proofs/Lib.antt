@@ -1,1 +1,3 @@
 pub mod LeastShown
+pub mod Tree
+pub mod Grow

@@ -4,3 +4,4 @@ pub mod Owners
 pub mod OwnerLaws
 pub mod Clashes
 pub mod Chosen
+pub mod Search

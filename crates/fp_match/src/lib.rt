@@ -3,6 +3,9 @@
 
 mod choice;
 mod costs;
+mod labels;
+mod matching;
+mod scan;
 mod shown;
 mod stripes;
 
