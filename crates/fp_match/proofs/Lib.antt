@@ -1,3 +1,4 @@
 pub mod LeastShown
 pub mod Tree
 pub mod Grow
+pub mod Steps

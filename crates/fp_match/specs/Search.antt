@@ -1,5 +1,5 @@
 -- A search for a column for one more row: what is known in its course, and what its steps do.
-use Rattle.std.specs.Prelude.{◌≡◌, ◌≢◌, ℕ, ◌+◌, ◌^◌, ◌<◌, ◌≤◌, ◌⊎◌, Bool, nat_lt, if◌then◌else◌, min, List, length, slice_index, slice_set}
+use Rattle.std.specs.Prelude.{◌≡◌, ◌≢◌, ℕ, ◌+◌, ◌*◌, ◌^◌, ◌<◌, ◌≤◌, ◌⊎◌, Bool, nat_lt, if◌then◌else◌, min, List, length, slice_index, slice_set}
 use Rattle.fp_match.specs.declared.labels.Labels.{Labels}
 use Rattle.fp_match.specs.declared.matching.Matching.{Matching}
 use Rattle.fp_match.specs.declared.scan.Turn.{Turn}
@@ -114,6 +114,15 @@ pub record Scanned (cost : ℕ → ℕ → ℕ) (columns row : ℕ) (m : Matchin
   pub tree : IsTree cost columns row m new
   pub grown : Grown old new
   pub covered : AreCovered cost row m new from to
+
+-- the columns of a stripe are covered from the row settled last
+abbrev pub StripeCovered : (ℕ → ℕ → ℕ) → ℕ → ℕ → ℕ → Matching → Labels → ℕ → Type 0
+StripeCovered cost columns width row m l stripe =
+    AreCovered cost row m l (stripe * width) (min (stripe * width + width) columns)
+
+abbrev pub StripeScanned : (ℕ → ℕ → ℕ) → ℕ → ℕ → ℕ → Matching → Labels → Labels → ℕ → Type 0
+StripeScanned cost columns width row m old new stripe =
+    Scanned cost columns row m old new (stripe * width) (min (stripe * width + width) columns)
 
 -- a column that the row settled last reaches at the label
 pub record IsOffer (cost : ℕ → ℕ → ℕ) (columns row : ℕ) (m : Matching) (l : Labels) (s label : ℕ) : Type 0 where
