@@ -165,3 +165,74 @@ swept_step cost columns width row m a b c j done within more =
 pub stripe_grown : (cost : ℕ → ℕ → ℕ) (columns width row : ℕ) (m : Matching) (b c : Labels) (first : ℕ) → Grown b c
     → StripeCovered cost columns width row m b first → StripeCovered cost columns width row m c first
 stripe_grown cost columns width row m b c first grown covered = λ s le lt. covered_grown cost row m b c s grown (covered s le lt)
+
+pub floor_bound : (cost : ℕ → ℕ → ℕ) (rows columns width row : ℕ) (m : Matching) (l : Labels) (t : Turn) (stripe floor : ℕ)
+    → IsWithinLimits rows columns cost → IsTree cost columns row m l → IsTurn cost row m l t → row < rows → 1 ≤ width
+    → stripe * width < columns → IsFloor (cost t.row) columns width stripe floor → t.depth + floor ≤ far + 2 ^ 36
+floor_bound cost rows columns width row m l t stripe floor limits tree turn row_in positive within below =
+    let low : floor ≤ cost t.row (stripe * width) = below (stripe * width) (omega arith) (omega arith) within in
+    let most : cost t.row (stripe * width) ≤ 2 ^ 36 =
+        limits.most_cost t.row (stripe * width) (omega (arith, turn.row_is, tree.reached l.at tree.within)) within in
+    omega (arith, turn.depth_is, tree.level_most, tree.level_after)
+
+pub turn_start : (cost : ℕ → ℕ → ℕ) (columns row : ℕ) (m : Matching) (l : Labels) (current depth : ℕ) → IsTree cost columns row m l
+    → current ≡ get_or l.reached.items l.at current → depth ≡ get_or l.label.items current depth → current ≡ row
+    → IsTurn cost row m l (record { row = current; depth = depth; least = 0 })
+turn_start cost columns row m l current depth tree read read_depth same =
+    let current_is : row_at l l.at ≡ current = read_is l.reached.items l.at current (omega (arith, tree.within, tree.places)) read in
+    let depth_is : label_of l current ≡ depth = read_is l.label.items current depth (omega (arith, tree.room.labels)) read_depth in
+    record {
+      row_is = sym current_is;
+      depth_is = rw current_is (sym depth_is);
+      least_is = rw (current_is, same) (sym (least_start cost row m));
+    }
+
+-- the column that a row of the tree has
+pub held_column : (cost : ℕ → ℕ → ℕ) (columns row : ℕ) (m : Matching) (l : Labels) (current column : ℕ) → IsTree cost columns row m l
+    → IsMatching cost columns row m → Fits columns row m → current ≡ get_or l.reached.items l.at current → current ≢ row
+    → column ≡ get_or m.column_of.items current column → (column_of m current ≡ column) × (current < row) × (column < columns)
+held_column cost columns row m l current column tree matched fits read other read_column =
+    let current_is : row_at l l.at ≡ current = read_is l.reached.items l.at current (omega (arith, tree.within, tree.places)) read in
+    let lt : current < row = omega (arith, tree.reached l.at tree.within) in
+    let column_is : column_of m current ≡ column = read_is m.column_of.items current column (omega (arith, fits.chosen)) read_column in
+    (column_is, lt, omega (arith, matched.agree.in_range current lt))
+
+pub held_bound : (cost : ℕ → ℕ → ℕ) (rows columns row : ℕ) (m : Matching) (l : Labels) (current column paid price : ℕ) → IsWithinLimits rows columns cost
+    → IsTree cost columns row m l → IsMatching cost columns row m → Fits columns row m → row < rows
+    → current ≡ get_or l.reached.items l.at current → current ≢ row → column ≡ get_or m.column_of.items current column
+    → paid ≡ cost current column → price ≡ get_or m.prices.items column price → paid + price ≤ 2 ^ 37
+held_bound cost rows columns row m l current column paid price limits tree matched fits row_in read other read_column paid_is read_price =
+    let held : (column_of m current ≡ column) × (current < row) × (column < columns) =
+        held_column cost columns row m l current column tree matched fits read other read_column in
+    let price_is : price_of m column ≡ price = read_is m.prices.items column price (omega (arith, held.2, fits.prices)) read_price in
+    omega (arith, limits.most_cost current column (omega (arith, held.1)) held.2, matched.capped column held.2)
+
+pub turn_held : (cost : ℕ → ℕ → ℕ) (columns row : ℕ) (m : Matching) (l : Labels) (current depth column paid price : ℕ) → IsTree cost columns row m l
+    → IsMatching cost columns row m → Fits columns row m
+    → current ≡ get_or l.reached.items l.at current → depth ≡ get_or l.label.items current depth → current ≢ row
+    → column ≡ get_or m.column_of.items current column → paid ≡ cost current column → price ≡ get_or m.prices.items column price
+    → IsTurn cost row m l (record { row = current; depth = depth; least = paid + price })
+turn_held cost columns row m l current depth column paid price tree matched fits read read_depth other read_column paid_is read_price =
+    let held : (column_of m current ≡ column) × (current < row) × (column < columns) =
+        held_column cost columns row m l current column tree matched fits read other read_column in
+    let current_is : row_at l l.at ≡ current = read_is l.reached.items l.at current (omega (arith, tree.within, tree.places)) read in
+    let depth_is : label_of l current ≡ depth = read_is l.label.items current depth (omega (arith, held.1, tree.room.labels)) read_depth in
+    let price_is : price_of m column ≡ price = read_is m.prices.items column price (omega (arith, held.2, fits.prices)) read_price in
+    let least : least_of cost row m current ≡ cost current column + price_of m column = rw (← held.0) (least_held cost row m current held.1) in
+    record {
+      row_is = sym current_is;
+      depth_is = rw current_is (sym depth_is);
+      least_is = rw current_is (omega (arith, least));
+    }
+
+pub first_covered : (cost : ℕ → ℕ → ℕ) (columns width row : ℕ) (m : Matching) (a b : Labels) (first w to : ℕ) → w ≡ width
+    → to ≡ min (first * w + width) columns → Scanned cost columns row m a b (first * w) to → StripeCovered cost columns width row m b first
+first_covered cost columns width row m a b first w to same end scanned =
+    let start : first * w ≡ first * width = ap (λ x. first * x) same in
+    λ s le lt. scanned.covered s (omega arith) (omega arith)
+
+pub swept_end : (cost : ℕ → ℕ → ℕ) (columns width row : ℕ) (m : Matching) (a b : Labels) (j count : ℕ) → j ≡ count → columns ≤ count * width
+    → Scanned cost columns row m a b 0 (min (j * width) columns) → Scanned cost columns row m a b 0 columns
+swept_end cost columns width row m a b j count same all scanned =
+    let product : j * width ≡ count * width = ap (λ x. x * width) same in
+    stripe_end_is cost columns row m a b 0 (min (j * width) columns) columns (omega arith) scanned

@@ -92,10 +92,10 @@ fn scan_stripe<C: Costs>(costs: &C, matching: &Matching, labels: &mut Labels, ro
     if stripe == first {
         return;
     }
+    let from = stripe * costs.stripe();
     if labels.level + turn.least <= turn.depth + costs.floor(turn.row, stripe) {
         return;
     }
-    let from = stripe * costs.stripe();
     let to = stripe_end(costs, from);
     scan_columns(costs, matching, labels, row, turn, from, to);
 }

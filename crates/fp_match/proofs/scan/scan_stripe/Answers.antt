@@ -1,5 +1,5 @@
 use Rattle.std.proofs.Common.{◌≡◌, ◌≢◌, ◌<◌, ◌≤◌, ◌+◌, ◌*◌, ℕ, length, min, refl, sym, ap, ◌∙◌, arith}
-use Rattle.fp_match.proofs.Steps.{least_bound, stripe_same, floor_far, stripe_end_is}
+use Rattle.fp_match.proofs.Steps.{least_bound, stripe_same, floor_far, stripe_end_is, floor_bound}
 use Rattle.fp_match.proofs.scan.scan_stripe.Goals as goal
 
 pub overflow_add-labels : goal.overflow_add-labels
@@ -9,4 +9,5 @@ overflow_add-labels g c =
 
 pub overflow_add-turn : goal.overflow_add-turn
 overflow_add-turn g c =
-    omega (arith, c.requires.turn.depth_is, c.requires.tree.level_most, c.requires.tree.level_after, ?)
+    omega (arith, floor_bound _ _ _ _ _ _ _ _ _ _ c.rows-limits.ensures.limits c.requires.tree c.requires.turn c.requires.row_in
+    (omega (arith, c.stripe.ensures.positive, c.stripe.ensures.value)) c.requires.stripe_in c.floor.ensures)
