@@ -5,3 +5,4 @@ pub mod OwnerLaws
 pub mod Clashes
 pub mod Chosen
 pub mod Search
+pub mod Matchers

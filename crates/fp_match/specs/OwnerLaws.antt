@@ -17,7 +17,7 @@ distinct_by_owners columns rows chosen owner agree i j lt below same =
     absurd (omega arith)
 
 -- one of the first m columns is not owned, or each is
-free_or_owned : (rows m : ℕ) (owner : List ℕ)
+pub free_or_owned : (rows m : ℕ) (owner : List ℕ)
     → ((s : ℕ) × ((s < m) × (rows ≤ slice_index owner s))) ⊎ ((s : ℕ) → s < m → slice_index owner s < rows)
 free_or_owned rows zero owner = inr (λ s lt. absurd (omega arith))
 free_or_owned rows (suc m) owner =

@@ -264,6 +264,7 @@ pub record IsHandedBack (cost : ℕ → ℕ → ℕ) (columns row : ℕ) (old ne
 -- the way from the row that the search began at to the sink
 pub record IsPath (cost : ℕ → ℕ → ℕ) (columns row : ℕ) (m : Matching) (l : Labels) : Type 0 where
   pub matched : IsHole cost columns row m l.sink
+  pub room : row < length l.parent.items
   pub places : l.last < length l.reached.items
   pub start : row_at l 0 ≡ row
   pub rows : (k : ℕ) → 0 < k → k ≤ l.last → row_at l k < row
@@ -272,3 +273,33 @@ pub record IsPath (cost : ℕ → ℕ → ℕ) (columns row : ℕ) (m : Matching
   pub best : (k : ℕ) → 0 < k → k ≤ l.last
       → IsBest cost columns m.prices.items (row_at l (parent_of l (row_at l k))) (column_of m (row_at l k))
   pub last : IsBest cost columns m.prices.items (row_at l l.last) l.sink
+
+-- the whole tree is known as far as the level
+pub record IsGrown (cost : ℕ → ℕ → ℕ) (columns row : ℕ) (m : Matching) (l : Labels) : Type 0 where
+  pub tree : IsTree cost columns row m l
+  pub covered : AreCovered cost row m l 0 columns
+  pub reached : HasReached l
+
+pub record SameSizes (old new : Matching) : Type 0 where
+  pub chosen : length new.column_of.items ≡ length old.column_of.items
+  pub owners : length new.owner.items ≡ length old.owner.items
+  pub prices : length new.prices.items ≡ length old.prices.items
+
+pub record SameRooms (old new : Labels) : Type 0 where
+  pub labels : length new.label.items ≡ length old.label.items
+  pub parents : length new.parent.items ≡ length old.parent.items
+  pub places : length new.reached.items ≡ length old.reached.items
+
+-- no column is used and none has a price
+pub record IsCleared (m : Matching) : Type 0 where
+  pub owners : (s : ℕ) → s < length m.owner.items → owner_of m s ≡ unused
+  pub prices : (s : ℕ) → s < length m.prices.items → price_of m s ≡ 0
+
+-- there is room for a problem of this size
+pub record IsRoomy (rows columns : ℕ) (m : Matching) (l : Labels) : Type 0 where
+  pub chosen : rows ≤ length m.column_of.items
+  pub owners : columns ≤ length m.owner.items
+  pub prices : columns ≤ length m.prices.items
+  pub labels : rows ≤ length l.label.items
+  pub parents : rows ≤ length l.parent.items
+  pub places : rows ≤ length l.reached.items

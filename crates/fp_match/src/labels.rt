@@ -71,4 +71,50 @@ impl Labels {
         self.sink = column;
         self.last = self.at;
     }
+
+    /// The place of the nearest row that waits. It is `count` where none does.
+    fn nearest(&self) -> usize
+        requires { CanTake self.now }
+        ensures { IsNearest self.now result }
+    {
+        let mut best = self.at + 1;
+        for place in self.at + 1..self.count {
+            if self.label[self.reached[place] as usize] < self.label[self.reached[best] as usize] {
+                best = place;
+            }
+        }
+        best
+    }
+
+    /// Settles the nearest row that waits. It says false where none lies within the level.
+    pub(crate) fn take_nearest(&mut self) -> bool
+        requires { CanTake self.old }
+        ensures taken { OnTrue result (IsTaken self.old self.new) }
+        ensures stays { OnFalse result (self.new ≡ self.old) }
+        ensures none { OnFalse result (HasReached self.old) }
+    {
+        let place = self.nearest();
+        if place >= self.count {
+            return false;
+        }
+        let row = self.reached[place];
+        if self.label[row as usize] >= self.level {
+            return false;
+        }
+        self.at += 1;
+        self.reached[place] = self.reached[self.at];
+        self.reached[self.at] = row;
+        true
+    }
+
+    /// Takes the labels off all rows that were reached.
+    pub(crate) fn reset(&mut self)
+        requires { CanReset self.old }
+        ensures { IsReset self.old self.new }
+    {
+        for place in 0..self.count {
+            let row = self.reached[place] as usize;
+            self.label[row] = FAR;
+        }
+    }
 }

@@ -1,9 +1,11 @@
 //! Assignment of rows to columns at least total cost, with prices of columns that show it.
 #![tactic(auto)]
 
+mod assign;
 mod choice;
 mod costs;
 mod labels;
+mod matcher;
 mod matching;
 mod scan;
 mod shown;
@@ -11,4 +13,5 @@ mod stripes;
 
 pub use choice::{Choice, ChoiceFault};
 pub use costs::Costs;
+pub use matcher::Matcher;
 pub use shown::prices_shown;
