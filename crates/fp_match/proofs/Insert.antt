@@ -37,9 +37,9 @@ pub level_low : (cost : ℕ → ℕ → ℕ) (rows columns row : ℕ) (m : Match
     → IsMatching cost columns row m → Fits columns row m → IsGrown cost columns row m l → row < rows → rows ≤ columns → l.level ≤ 2 ^ 36
 level_low cost rows columns row m l limits matched fits grown row_in few =
     let free : (s : ℕ) × ((s < columns) × (row ≤ owner_of m s)) = some_free cost columns row m matched fits (omega arith) in
-    let covered : Covered cost row m l row free.0 =
-        rw (← grown.tree.start) (grown_covered cost columns row m l 0 free.0 grown (omega arith) free.1.0) in
-    omega (arith, covered.free free.1.1, least_start cost row m, grown.tree.start_label, matched.free free.0 free.1.0 free.1.1,
+    let covered : Covered cost row m l (row_at l 0) free.0 = grown_covered cost columns row m l 0 free.0 grown (omega arith) free.1.0 in
+    omega (arith, covered.free free.1.1, ap (least_of cost row m) grown.tree.start, ap (label_of l) grown.tree.start,
+    ap (λ n. cost n free.0) grown.tree.start, least_start cost row m, grown.tree.start_label, matched.free free.0 free.1.0 free.1.1,
     limits.most_cost row free.0 row_in free.1.0)
 
 -- rows behind the first have columns
@@ -181,11 +181,12 @@ own_best cost columns row m l new n r n_in t lt =
     ]
 
 -- the way back from the sink, at the new prices
-pub path_of : (cost : ℕ → ℕ → ℕ) (columns row : ℕ) (m m' : Matching) (l : Labels) → IsMatching cost columns row m → Fits columns row m
+pub path_of : (cost : ℕ → ℕ → ℕ) (columns row : ℕ) (m m' : Matching) (l : Labels) (new : List ℕ) → IsMatching cost columns row m → Fits columns row m
     → IsGrown cost columns row m l → l.level ≤ 2 ^ 36 → row < unused
-    → m'.column_of.items ≡ m.column_of.items → m'.owner.items ≡ m.owner.items → IsRaised m.column_of.items m.prices.items m'.prices.items l
+    → m'.column_of.items ≡ m.column_of.items → m'.owner.items ≡ m.owner.items → m'.prices.items ≡ new → IsRaised m.column_of.items m.prices.items new l
     → IsPath cost columns row m' l
-path_of cost columns row m m' l matched fits grown low few chosen_is owner_is raised =
+path_of cost columns row m m' l new matched fits grown low few chosen_is owner_is prices_is raised_new =
+    let raised : IsRaised m.column_of.items m.prices.items m'.prices.items l = rw prices_is raised_new in
     let r : Raised cost columns row m l m'.prices.items =
         record { matched = matched; fits = fits; grown = grown; low = omega arith; raised = raised } in
     let tree : IsTree cost columns row m l = grown.tree in
@@ -223,11 +224,12 @@ path_of cost columns row m m' l matched fits grown low few chosen_is owner_is ra
     }
 
 -- the matching with one row more
-pub matched_more : (cost : ℕ → ℕ → ℕ) (rows columns row : ℕ) (m m' m'' : Matching) (l : Labels) → IsWithinLimits rows columns cost
+pub matched_more : (cost : ℕ → ℕ → ℕ) (rows columns row : ℕ) (m m' m'' : Matching) (l : Labels) (new : List ℕ) → IsWithinLimits rows columns cost
     → IsMatching cost columns row m → Fits columns row m → IsGrown cost columns row m l → l.level ≤ 2 ^ 36 → row < rows
-    → IsRaised m.column_of.items m.prices.items m'.prices.items l → IsHandedBack cost columns row m' m''
+    → m'.prices.items ≡ new → IsRaised m.column_of.items m.prices.items new l → IsHandedBack cost columns row m' m''
     → IsMatching cost columns (row + 1) m''
-matched_more cost rows columns row m m' m'' l limits matched fits grown low row_in raised back =
+matched_more cost rows columns row m m' m'' l new limits matched fits grown low row_in prices_is raised_new back =
+    let raised : IsRaised m.column_of.items m.prices.items m'.prices.items l = rw prices_is raised_new in
     let r : Raised cost columns row m l m'.prices.items =
         record { matched = matched; fits = fits; grown = grown; low = omega arith; raised = raised } in
     let sink : IsSink cost columns row m l = grown.tree.sunk r.low in
