@@ -1,19 +1,18 @@
 -- A matching of all rows, built up row by row.
-use Rattle.std.proofs.Common.{◌≡◌, ◌≢◌, ℕ, ◌+◌, ◌-◌, ◌<◌, ◌≤◌, List, length, get_or, set, take, refl, sym, ap, ◌∙◌, arith}
-use Rattle.std.specs.Prelude.{slice_index, All, ◌^◌}
+use Rattle.std.proofs.Common.{◌≡◌, ℕ, ◌+◌, ◌-◌, ◌<◌, ◌≤◌, length, get_or, set, take, refl, ap, ◌∙◌, arith}
+use Rattle.std.specs.Prelude.{slice_index, ◌^◌}
 use Rattle.std.proofs.lemmas.List.{get_or-take, length-take}
 use Rattle.std.proofs.Math.ListN.{length-set}
 use Rattle.std.proofs.lemmas.Grind.{get_or_default_zero}
 use Rattle.fp_match.specs.declared.labels.Labels.{Labels}
 use Rattle.fp_match.specs.declared.matching.Matching.{Matching}
-use Rattle.fp_match.specs.Prices.{IsWithinLimits, IsBest, IsChoice, ArePrices, IsLeast}
-use Rattle.fp_match.specs.Owners.{Agree, unused}
+use Rattle.fp_match.specs.Prices.{IsChoice, ArePrices, IsLeast}
+use Rattle.fp_match.specs.Owners.{Agree}
 use Rattle.fp_match.specs.OwnerLaws.{choice_by_owners, prices_by_owners}
 use Rattle.fp_match.specs.PriceLaws.{least_by_prices}
-use Rattle.fp_match.specs.Search.{label_of, row_at, owner_of, column_of, price_of, HasRoom, Fits, AreFar, IsMatching, IsTree, AreCovered, Grown, Scanned, IsSettled, IsTaken, IsStarted, HasReached, IsGrown, IsRoomy, SameSizes, SameRooms, IsCleared, CanReset, IsReset, IsRaised, IsHandedBack, CanTake, CanRaise, IsPath}
-use Rattle.fp_match.proofs.Tree.{tree_started, count_most}
+use Rattle.fp_match.specs.Search.{row_at, owner_of, column_of, HasRoom, Fits, AreFar, IsMatching, IsTree, AreCovered, Grown, Scanned, IsTaken, IsStarted, HasReached, IsGrown, IsRoomy, SameSizes, SameRooms, IsCleared, CanReset, CanTake}
+use Rattle.fp_match.proofs.Tree.{count_most}
 use Rattle.fp_match.proofs.Grow.{can_take, tree_taken}
-use Rattle.fp_match.proofs.Insert.{level_low, can_raise, path_of, matched_more}
 
 pub rooms_refl : (l : Labels) → SameRooms l l
 rooms_refl l = record { labels = refl; parents = refl; places = refl }
@@ -165,14 +164,14 @@ pub solved_prices : (cost : ℕ → ℕ → ℕ) (rows columns : ℕ) (m : Match
 solved_prices cost rows columns m matched fits few =
     let size : length (take rows m.column_of.items) ≡ rows = omega (arith, length-take rows m.column_of.items) in
     let agree : Agree columns (length (take rows m.column_of.items)) (take rows m.column_of.items) m.owner.items =
-        rw size (taken_agree columns rows m matched.agree) in
+    rw size (taken_agree columns rows m matched.agree) in
     let price = λ (s : ℕ) (lt : s < columns). get_or-take columns m.prices.items s 0 lt in
     prices_by_owners cost columns (take rows m.column_of.items) m.owner.items (take columns m.prices.items) agree
     (λ s lt free. price s lt ∙ matched.free s lt (omega (arith, free)))
     (λ n lt t t_in.
-        let n_in : n < rows = omega arith in
-        let column : slice_index (take rows m.column_of.items) n ≡ column_of m n = get_or-take rows m.column_of.items n 0 n_in in
-        rw (column, price (column_of m n) (matched.agree.in_range n n_in), price t t_in) (matched.best n n_in t t_in))
+    let n_in : n < rows = omega arith in
+    let column : slice_index (take rows m.column_of.items) n ≡ column_of m n = get_or-take rows m.column_of.items n 0 n_in in
+    rw (column, price (column_of m n) (matched.agree.in_range n n_in), price t t_in) (matched.best n n_in t t_in))
 
 pub solved_choice : (cost : ℕ → ℕ → ℕ) (rows columns : ℕ) (m : Matching) → IsMatching cost columns rows m → rows ≤ length m.column_of.items
     → IsChoice rows columns (take rows m.column_of.items)

@@ -1,5 +1,5 @@
 -- How the sink and the columns on the way to it are handed back.
-use Rattle.std.proofs.Common.{◌≡◌, ◌≢◌, ℕ, ◌+◌, ◌-◌, ◌<◌, ◌≤◌, ◌⊎◌, inl, inr, List, length, get_or, set, refl, sym, ap, ◌∙◌, arith}
+use Rattle.std.proofs.Common.{◌≡◌, ◌≢◌, ℕ, ◌+◌, ◌-◌, ◌<◌, ◌≤◌, inl, inr, List, length, get_or, set, refl, sym, ap, ◌∙◌, arith}
 use Rattle.std.specs.Prelude.{slice_index, slice_set}
 use Rattle.std.proofs.lemmas.Bool.{cases_eq, cases_lt}
 use Rattle.std.proofs.lemmas.List.{get_or-set_same, get_or-set_other}
@@ -7,9 +7,9 @@ use Rattle.std.proofs.Math.ListN.{length-set}
 use Rattle.fp_match.specs.declared.labels.Labels.{Labels}
 use Rattle.fp_match.specs.declared.matching.Matching.{Matching}
 use Rattle.fp_match.specs.Prices.{IsBest}
-use Rattle.fp_match.specs.Owners.{Agree, unused}
+use Rattle.fp_match.specs.Owners.{unused}
 use Rattle.fp_match.proofs.Steps.{read_is}
-use Rattle.fp_match.specs.Search.{CanRaise, AreRaised, label_of, row_at, parent_of, owner_of, column_of, price_of, Fits, IsHole, IsPath, IsHandedBack}
+use Rattle.fp_match.specs.Search.{CanRaise, AreRaised, label_of, row_at, parent_of, owner_of, column_of, price_of, IsHole, IsPath, IsHandedBack}
 
 -- Rows behind the place have their new columns, and the row at the place is to have the hole.
 pub record IsHandingBack (cost : ℕ → ℕ → ℕ) (columns row : ℕ) (old m : Matching) (l : Labels) (hole place : ℕ) : Type 0 where
@@ -51,19 +51,19 @@ hole_moved cost columns row m m' hole n old n_in better chosen_is owner_is price
       few = old.few;
       within = old.in_range n n_in;
       in_range = λ k lt. elim (cases_eq k n) [
-          inl e ↦ rw (e, here) old.within
+        | inl e ↦ rw (e, here) old.within
         | inr ne ↦ rw (other k ne) (old.in_range k lt)
       ];
       owned = λ k lt. elim (cases_eq k n) [
-          inl e ↦ rw (e, here) owner_here
+        | inl e ↦ rw (e, here) owner_here
         | inr ne ↦ rw (other k ne) (owner_other (column_of m k) (old.vacant k lt) ∙ old.owned k lt)
       ];
       vacant = λ k lt same. elim (cases_eq k n) [
-          inl e ↦ old.vacant n n_in (sym same ∙ ap (column_of m') e ∙ here)
+        | inl e ↦ old.vacant n n_in (sym same ∙ ap (column_of m') e ∙ here)
         | inr ne ↦ ne (sym (old.owned k lt) ∙ ap (owner_of m) (sym (other k ne) ∙ same) ∙ left_owner)
       ];
       holds = λ s s_in ne has. elim (cases_eq s hole) [
-          inl e ↦ rw (e, owner_here) here
+        | inl e ↦ rw (e, owner_here) here
         | inr apart ↦
             let owner_same : owner_of m' s ≡ owner_of m s = owner_other s apart in
             let old_holds : column_of m (owner_of m s) ≡ s = old.holds s s_in apart (omega arith) in
@@ -71,14 +71,14 @@ hole_moved cost columns row m m' hole n old n_in better chosen_is owner_is price
             rw owner_same (other (owner_of m s) not_n ∙ old_holds)
       ];
       free = λ s s_in ne out. elim (cases_eq s hole) [
-          inl e ↦ absurd (omega (arith, ap (owner_of m') e))
+        | inl e ↦ absurd (omega (arith, ap (owner_of m') e))
         | inr apart ↦
             let owner_same : owner_of m' s ≡ owner_of m s = owner_other s apart in
             let was : (owner_of m s ≡ unused) × (price_of m s ≡ 0) = old.free s s_in apart (omega arith) in
             (owner_same ∙ was.0, ap (λ xs. slice_index xs s) prices_is ∙ was.1)
       ];
       best = λ k lt. rw prices_is (elim (cases_eq k n) [
-          inl e ↦ rw (e, here) better
+        | inl e ↦ rw (e, here) better
         | inr ne ↦ rw (other k ne) (old.best k lt)
       ]);
     }
@@ -93,7 +93,7 @@ handing_step cost columns row old m m' l hole place path back pos chosen_is owne
     let before : parent_of l (row_at l place) < place = path.parents place pos back.within in
     let left : column_of m (row_at l place) ≡ column_of old (row_at l place) = back.same place pos (omega arith) in
     let link : IsBest cost columns old.prices.items (row_at l (parent_of l (row_at l place))) (column_of old (row_at l place)) =
-        path.best place pos back.within in
+    path.best place pos back.within in
     record {
       is_hole = hole_moved cost columns row m m' hole (row_at l place) back.is_hole n_in back.best chosen_is owner_is prices_is;
       within = omega (arith, back.within);
@@ -102,8 +102,10 @@ handing_step cost columns row old m m' l hole place path back pos chosen_is owne
           let apart : row_at l k ≢ row_at l place = path.distinct k place (omega arith) back.within in
           rw chosen_is (get_or-set_other m.column_of.items (row_at l place) (row_at l k) hole 0 apart) ∙ back.same k k_pos (omega arith);
       prices = prices_is ∙ back.prices;
-      sizes = (rw chosen_is (length-set m.column_of.items (row_at l place) hole) ∙ back.sizes.0,
-          rw owner_is (length-set m.owner.items hole (row_at l place)) ∙ back.sizes.1);
+      sizes = (
+        rw chosen_is (length-set m.column_of.items (row_at l place) hole) ∙ back.sizes.0,
+        rw owner_is (length-set m.owner.items hole (row_at l place)) ∙ back.sizes.1,
+      );
     }
 
 -- the row that had no column gets the hole
@@ -122,42 +124,44 @@ handing_end cost columns row old m m' l hole place path back start chosen_is own
     record {
       agree = record {
         in_range = λ k lt. elim (cases_eq k row) [
-            inl e ↦ rw (e, here) was.within
+          | inl e ↦ rw (e, here) was.within
           | inr ne ↦ rw (other k ne) (was.in_range k (omega arith))
         ];
         owned = λ k lt. elim (cases_eq k row) [
-            inl e ↦ rw (e, here) owner_here
+          | inl e ↦ rw (e, here) owner_here
           | inr ne ↦ rw (other k ne) (owner_other (column_of m k) (was.vacant k (omega arith)) ∙ was.owned k (omega arith))
         ];
         holds = λ s s_in has. elim (cases_eq s hole) [
-            inl e ↦ rw (e, owner_here) here
+          | inl e ↦ rw (e, owner_here) here
           | inr apart ↦
               let owner_same : owner_of m' s ≡ owner_of m s = owner_other s apart in
               elim (cases_lt (owner_of m s) row) [
-                  inl earlier ↦ rw owner_same (other (owner_of m s) (omega arith) ∙ was.holds s s_in apart earlier)
+                | inl earlier ↦ rw owner_same (other (owner_of m s) (omega arith) ∙ was.holds s s_in apart earlier)
                 | inr later ↦ absurd (omega (arith, (was.free s s_in apart later).0, was.few))
               ]
         ];
         free = λ s s_in out. elim (cases_eq s hole) [
-            inl e ↦ absurd (omega (arith, ap (owner_of m') e))
+          | inl e ↦ absurd (omega (arith, ap (owner_of m') e))
           | inr apart ↦
               let owner_same : owner_of m' s ≡ owner_of m s = owner_other s apart in
               owner_same ∙ (was.free s s_in apart (omega arith)).0
         ];
       };
       free = λ s s_in out. elim (cases_eq s hole) [
-          inl e ↦ absurd (omega (arith, ap (owner_of m') e))
+        | inl e ↦ absurd (omega (arith, ap (owner_of m') e))
         | inr apart ↦
             let owner_same : owner_of m' s ≡ owner_of m s = owner_other s apart in
             ap (λ xs. slice_index xs s) prices_is ∙ (was.free s s_in apart (omega arith)).1
       ];
       best = λ k lt. rw prices_is (elim (cases_eq k row) [
-          inl e ↦ rw (e, here) better
+        | inl e ↦ rw (e, here) better
         | inr ne ↦ rw (other k ne) (was.best k (omega arith))
       ]);
       prices = prices_is ∙ back.prices;
-      sizes = (rw chosen_is (length-set m.column_of.items row hole) ∙ back.sizes.0,
-          rw owner_is (length-set m.owner.items hole row) ∙ back.sizes.1);
+      sizes = (
+        rw chosen_is (length-set m.column_of.items row hole) ∙ back.sizes.0,
+        rw owner_is (length-set m.owner.items hole row) ∙ back.sizes.1,
+      );
     }
 
 pub back_row : (cost : ℕ → ℕ → ℕ) (columns row : ℕ) (m : Matching) (l : Labels) (place current : ℕ) → IsPath cost columns row m l
@@ -187,7 +191,7 @@ back_step cost columns row old m m' l hole place current left next path back pos
     let left_is : column_of m (row_at l place) ≡ left = ap (column_of m) at.0 ∙ column in
     let next_is : parent_of l (row_at l place) ≡ next = (back_less cost columns row old l place current next path back.within pos read read_next).0 in
     let step : IsHandingBack cost columns row old m' l (column_of m (row_at l place)) (parent_of l (row_at l place)) =
-        handing_step cost columns row old m m' l hole place path back pos (rw at.0 chosen_is) (rw at.0 owner_is) prices_is in
+    handing_step cost columns row old m m' l hole place path back pos (rw at.0 chosen_is) (rw at.0 owner_is) prices_is in
     let at_left : IsHandingBack cost columns row old m' l left (parent_of l (row_at l place)) = rw (← left_is) step in
     rw (← next_is) at_left
 
@@ -210,13 +214,13 @@ raise_step chosen old new l k row label can done pos within read read_label =
     record {
       size = length-set new s raised ∙ done.size;
       raised = λ i i_pos lt. elim (cases_eq i k) [
-          inl e ↦ rw (e, s_is, row_is, here) (omega (arith, label_is))
+        | inl e ↦ rw (e, s_is, row_is, here) (omega (arith, label_is))
         | inr ne ↦ rw (other (slice_index chosen (row_at l i)) (apart i i_pos (omega arith))) (done.raised i i_pos (omega arith))
       ];
       same = λ t out.
           other t (λ e. out k pos (omega arith) (s_is ∙ sym e)) ∙ done.same t (λ i i_pos lt. out i i_pos (omega arith));
       rises = λ t. elim (cases_eq t s) [
-          inl e ↦ rw (e, here) (omega arith)
+        | inl e ↦ rw (e, here) (omega arith)
         | inr ne ↦ omega (arith, other t ne, done.rises t)
       ];
     }

@@ -1,14 +1,14 @@
 -- The steps of a scan, over what the code reads.
-use Rattle.std.proofs.Common.{◌≡◌, ◌≢◌, ℕ, ◌+◌, ◌-◌, ◌*◌, ◌<◌, ◌≤◌, ◌⊎◌, inl, inr, List, length, get_or, min, refl, sym, ap, ◌∙◌, arith}
+use Rattle.std.proofs.Common.{◌≡◌, ◌≢◌, ℕ, ◌+◌, ◌-◌, ◌*◌, ◌<◌, ◌≤◌, inl, inr, List, length, get_or, min, sym, ap, ◌∙◌, arith}
 use Rattle.std.specs.Prelude.{slice_index, ◌^◌}
-use Rattle.std.proofs.lemmas.Bool.{cases_eq, cases_lt}
+use Rattle.std.proofs.lemmas.Bool.{cases_lt}
 use Rattle.std.proofs.lemmas.Grind.{get_or_default_zero}
 use Rattle.fp_match.specs.declared.labels.Labels.{Labels}
 use Rattle.fp_match.specs.declared.matching.Matching.{Matching}
 use Rattle.fp_match.specs.declared.scan.Turn.{Turn}
 use Rattle.fp_match.specs.Prices.{IsWithinLimits, IsFloor}
-use Rattle.fp_match.specs.Owners.{Agree, unused}
-use Rattle.fp_match.specs.Search.{far, label_of, row_at, owner_of, column_of, price_of, HasRoom, Fits, IsMatching, least_of, Covered, IsTree, AreCovered, Grown, Scanned, StripeCovered, StripeScanned, IsOffer, Offered, IsTurn, IsLowered, IsEntered}
+use Rattle.fp_match.specs.Owners.{unused}
+use Rattle.fp_match.specs.Search.{far, label_of, row_at, owner_of, column_of, price_of, HasRoom, Fits, IsMatching, least_of, IsTree, Grown, Scanned, StripeCovered, StripeScanned, IsOffer, Offered, IsTurn, IsLowered, IsEntered}
 use Rattle.fp_match.proofs.Tree.{least_held, least_start, place_for, tree_lowered, tree_entered, tree_sunk, tree_same, grown_refl, covered_grown, covered_far, offer_of, turn_low, scanned_more}
 
 -- what a read gives
@@ -27,7 +27,7 @@ pub owned_row : (cost : ℕ → ℕ → ℕ) (columns row : ℕ) (m : Matching) 
     → owner_of m s ≡ h → h ≢ unused → h < row
 owned_row cost columns row m l s v h offer owner_is used =
     elim (cases_lt h row) [
-        inl lt ↦ lt
+      | inl lt ↦ lt
       | inr le ↦ absurd (used (sym owner_is ∙ offer.agree.free s offer.within (rw owner_is le)))
     ]
 
@@ -172,7 +172,7 @@ pub floor_bound : (cost : ℕ → ℕ → ℕ) (rows columns width row : ℕ) (m
 floor_bound cost rows columns width row m l t stripe floor limits tree turn row_in positive within below =
     let low : floor ≤ cost t.row (stripe * width) = below (stripe * width) (omega arith) (omega arith) within in
     let most : cost t.row (stripe * width) ≤ 2 ^ 36 =
-        limits.most_cost t.row (stripe * width) (omega (arith, turn.row_is, tree.reached l.at tree.within)) within in
+    limits.most_cost t.row (stripe * width) (omega (arith, turn.row_is, tree.reached l.at tree.within)) within in
     omega (arith, turn.depth_is, tree.level_most, tree.level_after)
 
 pub turn_start : (cost : ℕ → ℕ → ℕ) (columns row : ℕ) (m : Matching) (l : Labels) (current depth : ℕ) → IsTree cost columns row m l
@@ -203,7 +203,7 @@ pub held_bound : (cost : ℕ → ℕ → ℕ) (rows columns row : ℕ) (m : Matc
     → paid ≡ cost current column → price ≡ get_or m.prices.items column price → paid + price ≤ 2 ^ 37
 held_bound cost rows columns row m l current column paid price limits tree matched fits row_in read other read_column paid_is read_price =
     let held : (column_of m current ≡ column) × (current < row) × (column < columns) =
-        held_column cost columns row m l current column tree matched fits read other read_column in
+    held_column cost columns row m l current column tree matched fits read other read_column in
     let price_is : price_of m column ≡ price = read_is m.prices.items column price (omega (arith, held.2, fits.prices)) read_price in
     omega (arith, limits.most_cost current column (omega (arith, held.1)) held.2, matched.capped column held.2)
 
@@ -214,7 +214,7 @@ pub turn_held : (cost : ℕ → ℕ → ℕ) (columns row : ℕ) (m : Matching) 
     → IsTurn cost row m l (record { row = current; depth = depth; least = paid + price })
 turn_held cost columns row m l current depth column paid price tree matched fits read read_depth other read_column paid_is read_price =
     let held : (column_of m current ≡ column) × (current < row) × (column < columns) =
-        held_column cost columns row m l current column tree matched fits read other read_column in
+    held_column cost columns row m l current column tree matched fits read other read_column in
     let current_is : row_at l l.at ≡ current = read_is l.reached.items l.at current (omega (arith, tree.within, tree.places)) read in
     let depth_is : label_of l current ≡ depth = read_is l.label.items current depth (omega (arith, held.1, tree.room.labels)) read_depth in
     let price_is : price_of m column ≡ price = read_is m.prices.items column price (omega (arith, held.2, fits.prices)) read_price in

@@ -1,6 +1,6 @@
 -- How what a search knows is kept through its steps.
-use Rattle.std.proofs.Common.{◌≡◌, ◌≢◌, ℕ, ◌+◌, ◌<◌, ◌≤◌, ◌⊎◌, inl, inr, List, ◌∷◌, length, get_or, set, min, refl, sym, ap, ◌∙◌, arith, suc, zero}
-use Rattle.std.specs.Prelude.{slice_index, slice_set, ◌^◌}
+use Rattle.std.proofs.Common.{◌≡◌, ◌≢◌, ℕ, ◌+◌, ◌<◌, ◌≤◌, inl, inr, List, ◌∷◌, length, refl, sym, ap, ◌∙◌, arith, suc, zero}
+use Rattle.std.specs.Prelude.{slice_index, slice_set}
 use Rattle.std.proofs.lemmas.Bool.{cases_eq, cases_lt}
 use Rattle.std.proofs.lemmas.Bool.Decides.{nat_tests}
 use Rattle.std.proofs.lemmas.List.{get_or-set_same, get_or-set_other}
@@ -8,10 +8,10 @@ use Rattle.std.proofs.Math.ListN.{length-set}
 use Rattle.fp_match.specs.declared.labels.Labels.{Labels}
 use Rattle.fp_match.specs.declared.matching.Matching.{Matching}
 use Rattle.fp_match.specs.declared.scan.Turn.{Turn}
-use Rattle.fp_match.specs.Prices.{AreDistinctBelow, IsBest}
-use Rattle.fp_match.specs.Owners.{Agree, unused}
+use Rattle.fp_match.specs.Prices.{AreDistinctBelow}
+use Rattle.fp_match.specs.Owners.{unused}
 use Rattle.fp_match.specs.OwnerLaws.{pigeonhole}
-use Rattle.fp_match.specs.Search.{far, label_of, row_at, parent_of, owner_of, column_of, price_of, HasRoom, Fits, IsMatching, least_of, Covered, IsLink, IsSink, IsFound, IsTree, AreCovered, Grown, Scanned, IsOffer, Offered, IsTurn, IsLabelled, IsLowered, IsEntered, IsStarted, AreFar}
+use Rattle.fp_match.specs.Search.{far, label_of, row_at, parent_of, owner_of, column_of, price_of, HasRoom, IsMatching, least_of, Covered, IsLink, IsSink, IsTree, Grown, Scanned, IsOffer, Offered, IsTurn, IsLabelled, IsLowered, IsEntered, IsStarted, AreFar}
 
 pub least_held : (cost : ℕ → ℕ → ℕ) (row : ℕ) (m : Matching) (n : ℕ) → n < row
     → least_of cost row m n ≡ cost n (column_of m n) + price_of m (column_of m n)
@@ -27,7 +27,7 @@ pub least_low : (cost : ℕ → ℕ → ℕ) (columns row : ℕ) (m : Matching) 
     → least_of cost row m n ≤ cost n s + price_of m s
 least_low cost columns row m n s matched most lt =
     elim (cases_eq n row) [
-        inl e ↦ rw (e, least_start cost row m) (omega arith)
+      | inl e ↦ rw (e, least_start cost row m) (omega arith)
       | inr ne ↦
           let held : least_of cost row m n ≡ cost n (column_of m n) + price_of m (column_of m n) = least_held cost row m n (omega arith) in
           let best : cost n (column_of m n) + price_of m (column_of m n) ≤ cost n s + price_of m s = matched.best n (omega arith) s lt in
@@ -115,18 +115,18 @@ tree_labelled cost columns row m l l' h v p s tree offer owner_is h_in labelled 
     let lab = λ (n : ℕ) (ne : n ≢ h). others l.label.items l'.label.items h v labelled.label n ne in
     let par = λ (n : ℕ) (ne : n ≢ h). others l.parent.items l'.parent.items h l.at labelled.parent n ne in
     let falls : (n : ℕ) → label_of l' n ≤ label_of l n =
-        λ n. elim (cases_eq n h) [ inl e ↦ rw e (omega arith) | inr ne ↦ omega (arith, lab n ne) ] in
+    λ n. elim (cases_eq n h) [ inl e ↦ rw e (omega arith) | inr ne ↦ omega (arith, lab n ne) ] in
     let unsettled : (k : ℕ) → k ≤ l.at → row_at l k ≢ h =
-        λ k le e. omega (arith, tree.before k le, offer.after, ap (label_of l) e) in
+    λ k le e. omega (arith, tree.before k le, offer.after, ap (label_of l) e) in
     let settled : (k : ℕ) → k ≤ l.at → label_of l' (row_at l k) ≡ label_of l (row_at l k) = λ k le. lab (row_at l k) (unsettled k le) in
     let settled_rows : (k : ℕ) → k ≤ l.at → row_at l' k ≡ row_at l k = λ k le. rows k (omega (arith, tree.within)) in
     let last_row : row_at l' l'.at ≡ row_at l l.at = ap (row_at l') labelled.at ∙ settled_rows l.at (omega arith) in
     let depth : label_of l' (row_at l' l'.at) ≡ label_of l (row_at l l.at) = ap (label_of l') last_row ∙ settled l.at (omega arith) in
     let old_place : (k : ℕ) → k < l'.count → row_at l' k ≢ h → k < l.count =
-        λ k lt ne. elim (cases_lt k l.count) [ inl under ↦ under | inr over ↦ absurd (ne (news k over lt)) ] in
+    λ k lt ne. elim (cases_lt k l.count) [ inl under ↦ under | inr over ↦ absurd (ne (news k over lt)) ] in
     let at_is : l'.at ≡ l.at = labelled.at in
     let h_is : column_of m h ≡ s =
-        rw (← owner_is) (offer.agree.holds s offer.within (rw owner_is h_in)) in
+    rw (← owner_is) (offer.agree.holds s offer.within (rw owner_is h_in)) in
     let grown : Grown l l' = record {
       at = at_is;
       level = omega (arith, labelled.level);
@@ -153,11 +153,11 @@ tree_labelled cost columns row m l l' h v p s tree offer owner_is h_in labelled 
         within = omega (arith, tree.within);
         places = places;
         reached = λ k lt. elim (cases_eq (row_at l' k) h) [
-            inl e ↦ omega arith
+          | inl e ↦ omega arith
           | inr ne ↦ omega (arith, tree.reached k (old_place k lt ne), rows k (old_place k lt ne))
         ];
         near = λ k lt. elim (cases_eq (row_at l' k) h) [
-            inl e ↦ rw e (omega (arith, lab_h, offer.lower, tree.level_most))
+          | inl e ↦ rw e (omega (arith, lab_h, offer.lower, tree.level_most))
           | inr ne ↦
               let e : row_at l' k ≡ row_at l k = rows k (old_place k lt ne) in
               let less : label_of l (row_at l k) < far = tree.near k (old_place k lt ne) in
@@ -165,18 +165,18 @@ tree_labelled cost columns row m l l' h v p s tree offer owner_is h_in labelled 
         ];
         distinct = distinct;
         found = λ n lt. elim (cases_eq n h) [
-            inl e ↦ inr (p, p_in, p_is ∙ sym e)
+          | inl e ↦ inr (p, p_in, p_is ∙ sym e)
           | inr ne ↦ elim (tree.found n (omega (arith, grown.size))) [
-                inl is_far ↦ inl (lab n ne ∙ is_far)
-              | inr place ↦ inr (place.0, omega (arith, place.1), rows place.0 place.1 ∙ place.2)
-            ]
+            | inl is_far ↦ inl (lab n ne ∙ is_far)
+            | inr place ↦ inr (place.0, omega (arith, place.1), rows place.0 place.1 ∙ place.2)
+          ]
         ];
         before = λ k le.
             let old : label_of l (row_at l k) ≤ label_of l (row_at l l.at) = tree.before k (omega arith) in
             let e : row_at l' k ≡ row_at l k = settled_rows k (omega arith) in
             omega (arith, depth, falls (row_at l' k), ap (label_of l) e);
         after = λ k gt lt. elim (cases_eq (row_at l' k) h) [
-            inl e ↦ rw e (omega (arith, lab_h, depth, offer.after))
+          | inl e ↦ rw e (omega (arith, lab_h, depth, offer.after))
           | inr ne ↦
               let e : row_at l' k ≡ row_at l k = rows k (old_place k lt ne) in
               let old : label_of l (row_at l l.at) ≤ label_of l (row_at l k) = tree.after k (omega arith) (old_place k lt ne) in
@@ -187,9 +187,9 @@ tree_labelled cost columns row m l l' h v p s tree offer owner_is h_in labelled 
         covered = λ k t lt t_in. cov_mono cost row m l l' (row_at l k) (row_at l' k) t (settled_rows k (omega arith)) (omega (arith, labelled.level)) falls
             (settled k (omega arith)) (tree.covered k t (omega arith) t_in);
         linked = λ k pos lt. elim (cases_eq (row_at l' k) h) [
-            inl e ↦
+          | inl e ↦
               let later : l.at < k = elim (cases_lt l.at k) [
-                  inl under ↦ under
+                | inl under ↦ under
                 | inr over ↦ absurd (unsettled k over (sym (settled_rows k over) ∙ e))
               ] in
               link_of cost row m l' k h l.at (row_at l l.at) e par_h (settled_rows l.at (omega arith)) later (omega arith)
@@ -216,7 +216,7 @@ pub tree_lowered : (cost : ℕ → ℕ → ℕ) (columns row : ℕ) (m : Matchin
     → IsLowered l l' h v → v < label_of l h → Offered cost columns row m l l' s
 tree_lowered cost columns row m l l' h v s tree offer owner_is h_in near lowered lower =
     elim (tree.found h (omega (arith, tree.room.labels))) [
-        inl is_far ↦ absurd (near is_far)
+      | inl is_far ↦ absurd (near is_far)
       | inr place ↦
           tree_labelled cost columns row m l l' h v place.0 s tree offer owner_is h_in lowered.labelled lower
           (λ k lt. ap (λ xs. slice_index xs k) lowered.reached)
@@ -234,13 +234,13 @@ tree_entered cost columns row m l l' h v s tree offer owner_is h_in is_far enter
     let place : l.count < row + 1 = place_for cost columns row m l h tree (omega arith) (omega arith) in
     let here : row_at l' l.count ≡ h = rw entered.reached (get_or-set_same l.reached.items l.count h 0 (omega (arith, tree.room.places))) in
     let same : (k : ℕ) → k < l.count → row_at l' k ≡ row_at l k =
-        λ k lt. rw entered.reached (get_or-set_other l.reached.items l.count k h 0 (omega arith)) in
+    λ k lt. rw entered.reached (get_or-set_other l.reached.items l.count k h 0 (omega arith)) in
     let size : length l'.reached.items ≡ length l.reached.items = rw entered.reached (length-set l.reached.items l.count h) in
     tree_labelled cost columns row m l l' h v l.count s tree offer owner_is h_in entered.labelled (omega (arith, offer.lower, tree.level_most))
     same (λ k le lt. ap (row_at l') (let e : k ≡ l.count = omega (arith, entered.count) in e) ∙ here)
     (omega (arith, entered.count)) (omega (arith, entered.count, tree.room.places)) size (omega (arith, entered.count)) here
     (λ i j lt below e. elim (cases_eq j l.count) [
-        inl last ↦ omega (arith, tree.near i (omega arith), ap (label_of l) (sym (same i (omega arith)) ∙ e ∙ ap (row_at l') last ∙ here))
+      | inl last ↦ omega (arith, tree.near i (omega arith), ap (label_of l) (sym (same i (omega arith)) ∙ e ∙ ap (row_at l') last ∙ here))
       | inr ne ↦
           let j_in : j < l.count = omega (arith, entered.count) in
           tree.distinct i j lt j_in (sym (same i (omega arith)) ∙ e ∙ same j j_in)
@@ -295,7 +295,7 @@ tree_sunk cost columns row m l l' v s tree offer unowned is =
         near = λ k lt. omega (arith, at_k k, tree.near k (omega arith));
         distinct = rw (count_is, reached_is) tree.distinct;
         found = λ n lt. elim (tree.found n (omega (arith, ap length label_is))) [
-            inl is_far ↦ inl (labels n ∙ is_far)
+          | inl is_far ↦ inl (labels n ∙ is_far)
           | inr place ↦ inr (place.0, omega (arith, place.1), rows place.0 ∙ place.2)
         ];
         before = λ k le. omega (arith, depth, at_k k, tree.before k (omega arith));
@@ -390,7 +390,7 @@ pub offer_of : (cost : ℕ → ℕ → ℕ) (columns row : ℕ) (m : Matching) (
 offer_of cost columns row m l t s value label matched tree turn within few value_is lower label_is =
     let paid : cost t.row s ≡ cost (row_at l l.at) s = ap (λ n. cost n s) turn.row_is in
     let low : least_of cost row m (row_at l l.at) ≤ cost (row_at l l.at) s + price_of m s =
-        least_low cost columns row m (row_at l l.at) s matched (tree.reached l.at tree.within) within in
+    least_low cost columns row m (row_at l l.at) s matched (tree.reached l.at tree.within) within in
     record {
       within = within;
       lower = omega (arith, turn.least_is);
@@ -422,7 +422,7 @@ scanned_more cost columns row m a b c from mid to one two = record {
   tree = two.tree;
   grown = grown_trans a b c one.grown two.grown;
   covered = λ s le lt. elim (cases_lt s mid) [
-      inl before ↦ covered_grown cost row m b c s two.grown (one.covered s le before)
+    | inl before ↦ covered_grown cost row m b c s two.grown (one.covered s le before)
     | inr after ↦ two.covered s after lt
   ];
 }
@@ -433,7 +433,7 @@ scanned_step cost columns row m a b c from s one offered = record {
   tree = offered.tree;
   grown = grown_trans a b c one.grown offered.grown;
   covered = λ t le lt. elim (cases_eq t s) [
-      inl e ↦ rw e offered.covered
+    | inl e ↦ rw e offered.covered
     | inr ne ↦ covered_grown cost row m b c t offered.grown (one.covered t le (omega arith))
   ];
 }
@@ -448,7 +448,7 @@ tree_started cost columns row m l l' room all_far started =
     let size : length l'.label.items ≡ length l.label.items = rw started.label (length-set l.label.items row 0) in
     let places : length l'.reached.items ≡ length l.reached.items = rw started.reached (length-set l.reached.items 0 row) in
     let only : (k : ℕ) → k < l'.count → row_at l' k ≡ row =
-        λ k lt. ap (row_at l') (let e : k ≡ 0 = omega (arith, started.count) in e) ∙ first in
+    λ k lt. ap (row_at l') (let e : k ≡ 0 = omega (arith, started.count) in e) ∙ first in
     let last_row : row_at l' l'.at ≡ row = ap (row_at l') started.at ∙ first in
     let depth : label_of l' (row_at l' l'.at) ≡ 0 = ap (label_of l') last_row ∙ mine in
     let at_k : (k : ℕ) → k < l'.count → label_of l' (row_at l' k) ≡ 0 = λ k lt. ap (label_of l') (only k lt) ∙ mine in
@@ -466,7 +466,7 @@ tree_started cost columns row m l l' room all_far started =
       near = λ k lt. omega (arith, at_k k lt);
       distinct = λ i j lt below. absurd (omega (arith, started.count));
       found = λ n lt. elim (cases_eq n row) [
-          inl e ↦ inr (0, omega (arith, started.count), first ∙ sym e)
+        | inl e ↦ inr (0, omega (arith, started.count), first ∙ sym e)
         | inr ne ↦ inl (others n ne ∙ all_far n (omega (arith, size)))
       ];
       before = λ k le. omega (arith, depth, at_k k (omega (arith, started.at, started.count)));

@@ -1,5 +1,5 @@
 -- A search for a column for one more row: what is known in its course, and what its steps do.
-use Rattle.std.specs.Prelude.{◌≡◌, ◌≢◌, ℕ, ◌+◌, ◌*◌, ◌^◌, ◌<◌, ◌≤◌, ◌⊎◌, Bool, nat_lt, if◌then◌else◌, min, List, length, slice_index, slice_set}
+use Rattle.std.specs.Prelude.{◌≡◌, ◌≢◌, ℕ, ◌+◌, ◌*◌, ◌^◌, ◌<◌, ◌≤◌, ◌⊎◌, nat_lt, if◌then◌else◌, min, List, length, slice_index, slice_set}
 use Rattle.fp_match.specs.declared.labels.Labels.{Labels}
 use Rattle.fp_match.specs.declared.matching.Matching.{Matching}
 use Rattle.fp_match.specs.declared.scan.Turn.{Turn}

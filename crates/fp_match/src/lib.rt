@@ -15,3 +15,6 @@ pub use choice::{Choice, ChoiceFault};
 pub use costs::Costs;
 pub use matcher::Matcher;
 pub use shown::prices_shown;
+
+#[cfg(test)]
+mod tests;

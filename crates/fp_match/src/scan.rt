@@ -19,7 +19,14 @@ struct Turn {
 }
 
 /// Looks at a column that the row settled last reaches at this label.
-fn offer<C: Costs>(costs: &C, matching: &Matching, labels: &mut Labels, row: u32, column: u32, label: u64)
+fn offer<C: Costs>(
+    costs: &C,
+    matching: &Matching,
+    labels: &mut Labels,
+    row: u32,
+    column: u32,
+    label: u64,
+)
     requires tree { IsTree (C.cost_of costs.now) (C.column_count costs.now) row matching.now labels.old }
     requires fits { Fits (C.column_count costs.now) row matching.now }
     requires offer { IsOffer (C.cost_of costs.now) (C.column_count costs.now) row matching.now labels.old column label }
@@ -43,7 +50,14 @@ fn offer<C: Costs>(costs: &C, matching: &Matching, labels: &mut Labels, row: u32
 }
 
 /// Looks at a column.
-fn look_at<C: Costs>(costs: &C, matching: &Matching, labels: &mut Labels, row: u32, turn: Turn, column: u32)
+fn look_at<C: Costs>(
+    costs: &C,
+    matching: &Matching,
+    labels: &mut Labels,
+    row: u32,
+    turn: Turn,
+    column: u32,
+)
     requires tree { IsTree (C.cost_of costs.now) (C.column_count costs.now) row matching.now labels.old }
     requires matched { IsMatching (C.cost_of costs.now) (C.column_count costs.now) row matching.now }
     requires fits { Fits (C.column_count costs.now) row matching.now }
@@ -61,7 +75,15 @@ fn look_at<C: Costs>(costs: &C, matching: &Matching, labels: &mut Labels, row: u
 }
 
 /// Looks at the columns from `from` up to `to`.
-fn scan_columns<C: Costs>(costs: &C, matching: &Matching, labels: &mut Labels, row: u32, turn: Turn, from: u32, to: u32)
+fn scan_columns<C: Costs>(
+    costs: &C,
+    matching: &Matching,
+    labels: &mut Labels,
+    row: u32,
+    turn: Turn,
+    from: u32,
+    to: u32,
+)
     requires tree { IsTree (C.cost_of costs.now) (C.column_count costs.now) row matching.now labels.old }
     requires matched { IsMatching (C.cost_of costs.now) (C.column_count costs.now) row matching.now }
     requires fits { Fits (C.column_count costs.now) row matching.now }
@@ -78,7 +100,15 @@ fn scan_columns<C: Costs>(costs: &C, matching: &Matching, labels: &mut Labels, r
 
 /// Looks at the columns of a stripe, unless it is the one that was looked at first, or its floor
 /// shows that it holds nothing within the level.
-fn scan_stripe<C: Costs>(costs: &C, matching: &Matching, labels: &mut Labels, row: u32, turn: Turn, first: u32, stripe: u32)
+fn scan_stripe<C: Costs>(
+    costs: &C,
+    matching: &Matching,
+    labels: &mut Labels,
+    row: u32,
+    turn: Turn,
+    first: u32,
+    stripe: u32,
+)
     requires tree { IsTree (C.cost_of costs.now) (C.column_count costs.now) row matching.now labels.old }
     requires matched { IsMatching (C.cost_of costs.now) (C.column_count costs.now) row matching.now }
     requires fits { Fits (C.column_count costs.now) row matching.now }
@@ -130,11 +160,19 @@ fn turn_of<C: Costs>(costs: &C, matching: &Matching, labels: &Labels, row: u32) 
     let current = labels.reached[labels.at];
     let depth = labels.label[current as usize];
     if current == row {
-        return Turn { row: current, depth, least: 0 };
+        return Turn {
+            row: current,
+            depth,
+            least: 0,
+        };
     }
     let column = matching.column_of[current as usize];
     let least = costs.cost(current, column) + matching.prices[column as usize];
-    Turn { row: current, depth, least }
+    Turn {
+        row: current,
+        depth,
+        least,
+    }
 }
 
 /// Looks at all columns for the row that was settled last: those of the stripe of least floor first,

@@ -1,4 +1,3 @@
-use Rattle.std.proofs.Common.{◌≡◌, ◌≢◌, ◌<◌, ◌≤◌, ◌+◌, ◌*◌, ℕ, length, min, refl, sym, ap, ◌∙◌, arith}
 use Rattle.fp_match.proofs.Assigned.{growing_taken, growing_smaller}
 use Rattle.fp_match.proofs.assign.grow.Goals as goal
 

@@ -1,4 +1,4 @@
-use Rattle.std.proofs.Common.{◌≡◌, ◌≢◌, ◌<◌, ◌≤◌, ◌+◌, ◌*◌, ℕ, length, min, refl, sym, ap, ◌∙◌, arith}
+use Rattle.std.proofs.Common.{refl, arith}
 use Rattle.fp_match.proofs.HandBack.{back_row, back_less, back_step}
 use Rattle.fp_match.proofs.matching.hand_back.Goals as goal
 

@@ -1,5 +1,3 @@
-use Rattle.std.proofs.Common.{◌≡◌, ℕ, ◌<◌, ◌≤◌, length}
-use Rattle.fp_match.specs.Search.{IsHole, row_at, column_of}
 use Rattle.fp_match.proofs.HandBack.{IsHandingBack}
 use Rattle.fp_match.proofs.matching.hand_back.Given as goal
 

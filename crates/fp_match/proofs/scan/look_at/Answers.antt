@@ -1,11 +1,14 @@
-use Rattle.std.proofs.Common.{◌≡◌, ◌≢◌, ◌<◌, ◌≤◌, ◌+◌, ◌*◌, ℕ, length, min, refl, sym, ap, ◌∙◌, arith}
+use Rattle.std.proofs.Common.{arith}
 use Rattle.fp_match.proofs.Steps.{least_bound, value_low, value_offer, value_far}
 use Rattle.fp_match.proofs.scan.look_at.Goals as goal
 
 pub overflow_add-labels : goal.overflow_add-labels
 overflow_add-labels g c =
-    omega (arith, c.requires.tree.level_most,
-    least_bound _ _ _ _ _ _ _ c.rows-limits.ensures.limits c.requires.matched c.requires.tree c.requires.turn _ c.requires.column_in c.requires.row_in)
+    omega (
+      arith,
+      c.requires.tree.level_most,
+      least_bound _ _ _ _ _ _ _ c.rows-limits.ensures.limits c.requires.matched c.requires.tree c.requires.turn _ c.requires.column_in c.requires.row_in,
+    )
 
 pub returns-then-value-labels : goal.returns-then-value-labels
 returns-then-value-labels g c =

@@ -1,4 +1,4 @@
-use Rattle.std.proofs.Common.{◌≡◌, ◌≢◌, ◌<◌, ◌≤◌, ◌+◌, ◌*◌, ℕ, length, min, refl, sym, ap, ◌∙◌, arith}
+use Rattle.std.proofs.Common.{◌<◌, arith}
 use Rattle.fp_match.proofs.Steps.{room_less, offer_sunk, enter_row, enter_place, offer_entered, offer_lowered, offer_same}
 use Rattle.fp_match.proofs.scan.offer.Goals as goal
 

@@ -1,4 +1,3 @@
-use Rattle.std.proofs.Common.{◌≡◌, ◌≢◌, ◌<◌, ◌≤◌, ◌+◌, ◌*◌, ℕ, length, min, refl, sym, ap, ◌∙◌, arith}
 use Rattle.fp_match.proofs.Tree.{scanned_none, scanned_step, turn_grown}
 use Rattle.fp_match.proofs.scan.scan_columns.Goals as goal
 

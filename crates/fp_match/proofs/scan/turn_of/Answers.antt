@@ -1,4 +1,4 @@
-use Rattle.std.proofs.Common.{◌≡◌, ◌≢◌, ◌<◌, ◌≤◌, ◌+◌, ◌*◌, ℕ, length, min, refl, sym, ap, ◌∙◌, arith}
+use Rattle.std.proofs.Common.{arith}
 use Rattle.fp_match.proofs.Steps.{turn_start, held_bound, turn_held}
 use Rattle.fp_match.proofs.scan.turn_of.Goals as goal
 
@@ -7,8 +7,11 @@ returns-then-current-row g c = turn_start _ _ _ _ _ _ _ c.requires.tree c.index-
 
 pub overflow_add-least : goal.overflow_add-least
 overflow_add-least g c =
-    omega (arith, held_bound _ _ _ _ _ _ _ _ _ _ c.rows-limits.ensures.limits c.requires.tree c.requires.matched c.requires.fits c.requires.row_in
-    c.index-current.ensures c.if-current-row.false c.index-column.ensures c.cost.ensures c.index.ensures)
+    omega (
+      arith,
+      held_bound _ _ _ _ _ _ _ _ _ _ c.rows-limits.ensures.limits c.requires.tree c.requires.matched c.requires.fits c.requires.row_in
+          c.index-current.ensures c.if-current-row.false c.index-column.ensures c.cost.ensures c.index.ensures,
+    )
 
 pub returns : goal.returns
 returns g c =

@@ -7,4 +7,4 @@ invariant-loop-place l =
     (length l.self.label.items ≡ length l.initial.self.label.items)
     × (l.self.reached ≡ l.initial.self.reached) × (l.self.parent ≡ l.initial.self.parent) × (l.self.count ≡ l.initial.self.count)
     × ((n : ℕ) → n < length l.self.label.items
-        → (label_of l.self n ≡ far) ⊎ ((k : ℕ) × (l.place ≤ k) × (k < l.initial.self.count) × (row_at l.initial.self k ≡ n)))
+    → (label_of l.self n ≡ far) ⊎ ((k : ℕ) × (l.place ≤ k) × (k < l.initial.self.count) × (row_at l.initial.self k ≡ n)))

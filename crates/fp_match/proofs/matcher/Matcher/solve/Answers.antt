@@ -1,4 +1,4 @@
-use Rattle.std.proofs.Common.{◌≡◌, ◌≢◌, ◌<◌, ◌≤◌, ◌+◌, ◌*◌, ℕ, length, min, refl, sym, ap, ◌∙◌, arith}
+use Rattle.std.proofs.Common.{ap, arith}
 use Rattle.fp_match.proofs.Assigned.{solved_prices, solved_least, solved_capped}
 use Rattle.fp_match.proofs.matcher.Matcher.solve.Goals as goal
 
