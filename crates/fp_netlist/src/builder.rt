@@ -62,10 +62,8 @@ impl ProblemBuilder {
     /// Adds a cell of a library cell. `Limit` exactly at 2^18 cells, else `Twice` exactly where a cell has the name,
     /// else `Unknown` exactly where the technology of either die lacks the library cell.
     pub fn add_inst(&mut self, name: &[u8], lib: LibId) -> Result<CellId, BuildFault>
-        ensures {
-            Adds (inst_refusal self.old name.now lib.0) (record { 0 = length self.old.cells }) self.old
-                (with_inst self.old name.now lib.0) result self.new
-        }
+        ensures { Adds (inst_refusal self.old name.now lib.0) (record { 0 = length self.old.cells }) self.old
+            (with_inst self.old name.now lib.0) result self.new }
     {
         let count = self.cells.len();
         if count >= CELLS {
@@ -87,10 +85,8 @@ impl ProblemBuilder {
 
     /// Adds a net. `Limit` exactly at 2^18 nets, else `Twice` exactly where a net has the name.
     pub fn add_net(&mut self, name: &[u8]) -> Result<NetId, BuildFault>
-        ensures {
-            Adds (net_refusal self.old name.now) (record { 0 = length self.old.nets }) self.old
-                (with_net self.old name.now) result self.new
-        }
+        ensures { Adds (net_refusal self.old name.now) (record { 0 = length self.old.nets }) self.old
+            (with_net self.old name.now) result self.new }
     {
         let count = self.net_names.len();
         if count >= CELLS {
@@ -109,10 +105,8 @@ impl ProblemBuilder {
     pub fn connect(&mut self, net: NetId, cell: CellId, pin: &[u8]) -> Result<ConnId, BuildFault>
         requires net { net.0 < length self.old.nets }
         requires cell { cell.0 < length self.old.cells }
-        ensures {
-            Adds (connect_refusal self.old cell.0 pin.now) (record { 0 = length self.old.conns }) self.old
-                (with_conn self.old net.0 cell.0 pin.now) result self.new
-        }
+        ensures { Adds (connect_refusal self.old cell.0 pin.now) (record { 0 = length self.old.conns }) self.old
+            (with_conn self.old net.0 cell.0 pin.now) result self.new }
     {
         let count = self.conns.len();
         if count >= CONNS {

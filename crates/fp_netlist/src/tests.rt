@@ -115,8 +115,14 @@ fn names_and_links(rt: &impl Abort, problem: &Problem) {
     assert_eq!(rt; problem.cell_name(CellId(0)), b"u1".as_slice());
     assert_eq!(rt; problem.net_name(NetId(0)), b"n1".as_slice());
     assert_eq!(rt; problem.lib_of(CellId(1)), LibId(0));
-    assert_eq!(rt; problem.conns_of_net(NetId(0)), [ConnId(0), ConnId(1), ConnId(2)].as_slice());
-    assert_eq!(rt; problem.conns_of_cell(CellId(0)), [ConnId(0), ConnId(2)].as_slice());
+    assert_eq!(rt;
+        problem.conns_of_net(NetId(0)),
+        [ConnId(0), ConnId(1), ConnId(2)].as_slice()
+    );
+    assert_eq!(rt;
+        problem.conns_of_cell(CellId(0)),
+        [ConnId(0), ConnId(2)].as_slice()
+    );
     assert_eq!(rt; problem.conns_of_cell(CellId(1)), [ConnId(1)].as_slice());
 }
 

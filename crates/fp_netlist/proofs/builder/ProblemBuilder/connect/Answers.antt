@@ -29,10 +29,12 @@ of-requires-clause-bottom c = lib_there c.self.inside.dies c.index.result.now Bo
 
 pub returns-in_default : goal.returns-in_default
 returns-in_default c =
-    let s = seen _ _ _ _ _ _ c.self.invariant c.self.view_is in
-    (refused_unknown (length c.args.self.now.conns) (2 ^ 21) false _ (omega (arith, c.len-count.ensures, c.if-count-ge-CONNS.false, s.many_conns, c.self.inside.conns.ok.0)) refl
-     (subst (λ plan. IsTrue (is_none (pin_for plan (lib_of c.args.self.now c.args.cell.0) c.args.pin.now Top) || is_none (pin_for plan (lib_of c.args.self.now c.args.cell.0) c.args.pin.now Bottom))) s.plan_is
-      (subst (λ l. IsTrue (is_none (pin_for c.self.inside.dies l c.args.pin.now Top) || is_none (pin_for c.self.inside.dies l c.args.pin.now Bottom))) (lib_read c.self.inside.cells.items c.args.self.now c.args.cell.0 c.index.result.now s.lib s.many c.requires.cell c.index.ensures) c.in_default.ensures)), refl)
+    let s = seen _ _ _ _ _ _ c.self.invariant c.self.view_is in (
+      refused_unknown (length c.args.self.now.conns) (2 ^ 21) false _ (omega (arith, c.len-count.ensures, c.if-count-ge-CONNS.false, s.many_conns, c.self.inside.conns.ok.0)) refl
+          (subst (λ plan. IsTrue (is_none (pin_for plan (lib_of c.args.self.now c.args.cell.0) c.args.pin.now Top) || is_none (pin_for plan (lib_of c.args.self.now c.args.cell.0) c.args.pin.now Bottom))) s.plan_is
+          (subst (λ l. IsTrue (is_none (pin_for c.self.inside.dies l c.args.pin.now Top) || is_none (pin_for c.self.inside.dies l c.args.pin.now Bottom))) (lib_read c.self.inside.cells.items c.args.self.now c.args.cell.0 c.index.result.now s.lib s.many c.requires.cell c.index.ensures) c.in_default.ensures)),
+      refl,
+    )
 
 of : (c : goal.In_ok-push) → IsConnOf c.self.inside.dies (lib_of c.args.self.now c.args.cell.0) c.args.net c.args.cell c.args.pin.now c.in-Some.conn
 of c =
@@ -51,8 +53,10 @@ invariant_of-self-2 c = (added c).kept
 pub returns : goal.returns
 returns c =
     let s = seen _ _ _ _ _ _ c.self.invariant c.self.view_is in
-    let many : c.len-count.result ≡ length c.args.self.now.conns = omega (arith, c.len-count.ensures, s.many_conns, c.self.inside.conns.ok.0) in
-    (nothing_refused (length c.args.self.now.conns) (2 ^ 21) false _ (omega (arith, c.len-count.ensures, c.if-count-ge-CONNS.false, s.many_conns, c.self.inside.conns.ok.0)) refl
-     (subst (λ plan. (is_none (pin_for plan (lib_of c.args.self.now c.args.cell.0) c.args.pin.now Top) || is_none (pin_for plan (lib_of c.args.self.now c.args.cell.0) c.args.pin.now Bottom)) ≡ false) s.plan_is
-      (pin_known c.self.inside.dies (lib_of c.args.self.now c.args.cell.0) c.args.net c.args.cell c.args.pin.now c.in-Some.conn (of c))),
-     ap (λ n. record { 0 = n }) many, (added c).view)
+    let many : c.len-count.result ≡ length c.args.self.now.conns = omega (arith, c.len-count.ensures, s.many_conns, c.self.inside.conns.ok.0) in (
+      nothing_refused (length c.args.self.now.conns) (2 ^ 21) false _ (omega (arith, c.len-count.ensures, c.if-count-ge-CONNS.false, s.many_conns, c.self.inside.conns.ok.0)) refl
+          (subst (λ plan. (is_none (pin_for plan (lib_of c.args.self.now c.args.cell.0) c.args.pin.now Top) || is_none (pin_for plan (lib_of c.args.self.now c.args.cell.0) c.args.pin.now Bottom)) ≡ false) s.plan_is
+          (pin_known c.self.inside.dies (lib_of c.args.self.now c.args.cell.0) c.args.net c.args.cell c.args.pin.now c.in-Some.conn (of c))),
+      ap (λ n. record { 0 = n }) many,
+      (added c).view,
+    )
