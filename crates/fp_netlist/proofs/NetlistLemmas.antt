@@ -1,5 +1,5 @@
 -- A kept problem and its value, and what adding makes of both.
-use Rattle.std.proofs.Common.{◌≡◌, ◌==◌, ℕ, zero, suc, ◌+◌, ◌-◌, ◌<◌, ◌≤◌, ◌^◌, Bool, true, false, ◌||◌, List, [], ◌∷◌, ◌++◌, length, map, take, Option, Some, None, is_some, is_none, IsTrue, IsSome, if◌then◌else◌, get_or, refl, sym, ap, subst, ◌∙◌, arith}
+use Rattle.std.proofs.Common.{◌≡◌, ◌==◌, ℕ, zero, suc, ◌+◌, ◌<◌, ◌≤◌, ◌^◌, Bool, true, false, ◌||◌, List, [], ◌∷◌, ◌++◌, length, map, Option, Some, None, is_some, is_none, if◌then◌else◌, get_or, refl, sym, ap, subst, ◌∙◌, arith}
 use Rattle.std.specs.Prelude.{nat_le, slice_get, unwrap_or, All}
 use Rattle.std.specs.List.{IsDistinct}
 use Rattle.std.specs.Option.{option_map, option_and_then}
@@ -13,16 +13,15 @@ use Rattle.fp_base.specs.declared.ids.Die.TheVariants.{Top, Bottom}
 use Rattle.fp_base.specs.declared.ids.CellId.{CellId}
 use Rattle.fp_base.specs.declared.ids.NetId.{NetId}
 use Rattle.fp_base.specs.declared.ids.Point.{Point}
-use Rattle.fp_tech.specs.declared.fault.BuildFault.{BuildFault}
 use Rattle.fp_tech.specs.declared.fault.BuildFault.TheVariants.{Twice, Unknown, Limit}
-use Rattle.fp_tech.specs.Book.{Lib, Pin, place_of, pin_names, size_of, offset_of, refusal, IsBook}
+use Rattle.fp_tech.specs.Book.{Lib, Pin, place_of, size_of, offset_of, refusal, IsBook}
 use Rattle.fp_tech.specs.BookLaws.{distinct_names, slice_get-front}
 use Rattle.fp_tech.specs.Plan.{Plan, IsPlan}
 use Rattle.fp_netlist.specs.declared.problem.Conn.{Conn}
 use Rattle.fp_netlist.specs.declared.kept.KeptCell.{KeptCell}
 use Rattle.fp_netlist.specs.declared.kept.KeptConn.{KeptConn}
-use Rattle.fp_netlist.specs.Netlist.{Cell, Netlist, no_cells, cell_names, lib_for, lib_at, lib_of, pin_for, pin_place, pin_count, ids_where, conns_of_cell, conns_of_net, with_inst, with_net, with_conn, conn_for, inst_refusal, net_refusal, connect_refusal, IsCell, IsConn, IsSound}
-use Rattle.fp_netlist.specs.Points.{no_lib, no_pin, lib_on, width, height, area, pin_of, pin_on, offset}
+use Rattle.fp_netlist.specs.Netlist.{Cell, Netlist, no_cells, cell_names, lib_for, lib_at, lib_of, pin_for, ids_where, conns_of_cell, conns_of_net, with_inst, with_net, with_conn, conn_for, IsCell, IsConn, IsSound}
+use Rattle.fp_netlist.specs.Points.{no_lib, no_pin, lib_on, width, height, pin_of, pin_on}
 use Rattle.fp_netlist.specs.KeptGroups.{conn_id, members_of}
 use Rattle.fp_netlist.specs.KeptProblem.{cell_keys, net_keys}
 use Rattle.fp_netlist.specs.KeptNetlist.{point_of, cells_of, netlist_of, size_kept, offset_kept, IsSizeOf, IsKeptCell, IsPinOf, IsConnOf, IsOffsetOf, IsKeptConn, IsKept}
@@ -102,8 +101,8 @@ unfolding IsDistinct
 nothing_kept plan names nets cells conns is_plan is_book no_names no_kept no_nets no_conns =
     subst (λ ns. IsKeptAs plan ns cells nets conns (no_cells plan)) (sym no_names)
     (subst (λ cs. IsKeptAs plan [] cs nets conns (no_cells plan)) (sym no_kept)
-     (subst (λ ns. IsKeptAs plan [] [] ns conns (no_cells plan)) (sym no_nets)
-      (subst (λ cs. IsKeptAs plan [] [] [] cs (no_cells plan)) (sym no_conns) (record { kept = nothing; view = refl }))))
+    (subst (λ ns. IsKeptAs plan [] [] ns conns (no_cells plan)) (sym no_nets)
+    (subst (λ cs. IsKeptAs plan [] [] [] cs (no_cells plan)) (sym no_conns) (record { kept = nothing; view = refl }))))
   where
     nothing : IsKept plan [] [] [] []
     nothing = record {
@@ -171,22 +170,26 @@ pub inst_added : (plan : Plan) (names new_names : List (List ℕ)) (cells new_ce
 inst_added plan names new_names cells new_cells nets conns p name kept is view room new cell more_names more_cells =
     subst (λ ns. IsKeptAs plan ns new_cells nets conns (with_inst p name kept.lib.0)) (sym more_names)
     (subst (λ cs. IsKeptAs plan (names ++ name ∷ []) cs nets conns (with_inst p name kept.lib.0)) (sym more_cells)
-     (record { kept = all_kept; view = as_added ∙ ap (λ q. with_inst q name kept.lib.0) view }))
+    (record { kept = all_kept; view = as_added ∙ ap (λ q. with_inst q name kept.lib.0) view }))
   where
     q : Netlist
     q = netlist_of plan names cells nets conns
+
     as_added : netlist_of plan (names ++ name ∷ []) (cells ++ kept ∷ []) nets conns ≡ with_inst (netlist_of plan names cells nets conns) name kept.lib.0
     as_added = ap (λ cs. record { plan = plan; cells = cs; nets = nets; conns = map (λ (k : KeptConn). k.conn) conns }) (cells_of-push names cells name kept is.as_many)
+
     sound : IsSound (with_inst (netlist_of plan names cells nets conns) name kept.lib.0)
     sound = inst_sound (netlist_of plan names cells nets conns) name kept.lib.0 is.sound
         (subst (λ r. length r.cells < 2 ^ 18) (sym view) room) (subst (λ r. place_of name (cell_names r) ≡ None) (sym view) new)
         (size_there (lib_for plan kept.lib.0 Top) kept.top cell.top.is) (size_there (lib_for plan kept.lib.0 Bottom) kept.bottom cell.bottom.is)
+
     there : (k : ℕ) (d : KeptConn) → k < length conns → (get_or conns k d).conn.cell.0 < length (cells_of names cells)
     there k d below = (conn_within conns k d below (netlist_of plan names cells nets conns) is.sound.conns).cell
       where
         conn_within : (conns : List KeptConn) (k : ℕ) (d : KeptConn) → k < length conns → (r : Netlist) → All (IsConn r) (map (λ kept. kept.conn) conns) → IsConn r (get_or conns k d).conn
         conn_within conns k d below r all =
             subst (IsConn r) (get_or-map (λ (kept : KeptConn). kept.conn) conns k d d.conn below) (all k d.conn (omega (arith, length-map conns (λ (kept : KeptConn). kept.conn))))
+
     all_kept : IsKept plan (names ++ name ∷ []) (cells ++ kept ∷ []) nets conns
     all_kept = record {
       as_many = omega (arith, is.as_many, length-append names (name ∷ []), length-append cells (kept ∷ []));
@@ -295,7 +298,7 @@ conn_sound p conn is room conn_ok = record {
   cells = All-weaker (IsCell p) (IsCell (record p { conns = p.conns ++ conn ∷ [] })) (λ c c_is. record { top = c_is.top; bottom = c_is.bottom }) p.cells is.cells;
   conns = All-push (IsConn (record p { conns = p.conns ++ conn ∷ [] })) p.conns conn
       (All-weaker (IsConn p) (IsConn (record p { conns = p.conns ++ conn ∷ [] }))
-       (λ c c_is. record { cell = c_is.cell; net = c_is.net; top_pin = c_is.top_pin; bottom_pin = c_is.bottom_pin }) p.conns is.conns)
+      (λ c c_is. record { cell = c_is.cell; net = c_is.net; top_pin = c_is.top_pin; bottom_pin = c_is.bottom_pin }) p.conns is.conns)
       (record { cell = conn_ok.cell; net = conn_ok.net; top_pin = conn_ok.top_pin; bottom_pin = conn_ok.bottom_pin });
 }
 
@@ -306,7 +309,7 @@ pub conn_added : (plan : Plan) (names : List (List ℕ)) (cells : List KeptCell)
 conn_added plan names cells nets conns new_conns p net cell name kept is view room net_there cell_there of more =
     subst (λ cs. IsKeptAs plan names cells nets cs (with_conn p net.0 cell.0 name)) (sym more)
     (subst (λ r. length r.conns < 2 ^ 21 → net.0 < length r.nets → cell.0 < length r.cells → IsConnOf plan (lib_of r cell.0) net cell name kept → IsKeptAs plan names cells nets (conns ++ kept ∷ []) (with_conn r net.0 cell.0 name))
-     view added room net_there cell_there of)
+    view added room net_there cell_there of)
   where
     added : length (map (λ (k : KeptConn). k.conn) conns) < 2 ^ 21 → net.0 < length nets → cell.0 < length (cells_of names cells)
         → IsConnOf plan (lib_of (netlist_of plan names cells nets conns) cell.0) net cell name kept
@@ -315,14 +318,19 @@ conn_added plan names cells nets conns new_conns p net cell name kept is view ro
       where
         q : Netlist
         q = netlist_of plan names cells nets conns
+
         there : kept.conn.cell.0 < length (cells_of names cells)
         there = subst (λ (c : CellId). c.0 < length (cells_of names cells)) (sym of.cell_is) cell_there
+
         libs : lib_of (netlist_of plan names cells nets conns) kept.conn.cell.0 ≡ lib_of (netlist_of plan names cells nets conns) cell.0
         libs = ap (λ (c : CellId). lib_of (netlist_of plan names cells nets conns) c.0) of.cell_is
+
         top : IsPinOf plan (lib_of (netlist_of plan names cells nets conns) kept.conn.cell.0) name Top kept.conn.top_pin kept.top
         top = subst (λ l. IsPinOf plan l name Top kept.conn.top_pin kept.top) (sym libs) of.top
+
         bottom : IsPinOf plan (lib_of (netlist_of plan names cells nets conns) kept.conn.cell.0) name Bottom kept.conn.bottom_pin kept.bottom
         bottom = subst (λ l. IsPinOf plan l name Bottom kept.conn.bottom_pin kept.bottom) (sym libs) of.bottom
+
         conn_ok : IsConn (netlist_of plan names cells nets conns) kept.conn
         conn_ok = record {
           cell = there;
@@ -330,11 +338,14 @@ conn_added plan names cells nets conns new_conns p net cell name kept is view ro
           top_pin = pin_within (lib_for plan (lib_of (netlist_of plan names cells nets conns) kept.conn.cell.0) Top) kept.conn.top_pin (point_of kept.top) top.point;
           bottom_pin = pin_within (lib_for plan (lib_of (netlist_of plan names cells nets conns) kept.conn.cell.0) Bottom) kept.conn.bottom_pin (point_of kept.bottom) bottom.point;
         }
+
         as_added : netlist_of plan names cells nets (conns ++ kept ∷ []) ≡ record (netlist_of plan names cells nets conns) { conns = map (λ (k : KeptConn). k.conn) conns ++ kept.conn ∷ [] }
         as_added = ap (λ cs. record { plan = plan; cells = cells_of names cells; nets = nets; conns = cs }) (map-append (λ (k : KeptConn). k.conn) conns (kept ∷ []))
+
         is_conn : kept.conn ≡ conn_for (netlist_of plan names cells nets conns) net.0 cell.0 name
         is_conn = conn_is kept.conn cell net (unwrap_or (pin_for plan (lib_of (netlist_of plan names cells nets conns) cell.0) name Top) 0) (unwrap_or (pin_for plan (lib_of (netlist_of plan names cells nets conns) cell.0) name Bottom) 0)
             of.cell_is of.net_is (sym (ap (λ o. unwrap_or o 0) of.top.is)) (sym (ap (λ o. unwrap_or o 0) of.bottom.is))
+
         all_kept : IsKept plan names cells nets (conns ++ kept ∷ [])
         all_kept = record {
           as_many = is.as_many;
@@ -342,12 +353,12 @@ conn_added plan names cells nets conns new_conns p net cell name kept is view ro
           sizes = is.sizes;
           offsets = subst (λ r. All (IsKeptConn r) (conns ++ kept ∷ [])) (sym as_added)
               (All-weaker (IsKeptConn (netlist_of plan names cells nets conns)) (IsKeptConn (record (netlist_of plan names cells nets conns) { conns = map (λ (k : KeptConn). k.conn) conns ++ kept.conn ∷ [] }))
-               (same_kept_conn (netlist_of plan names cells nets conns) (record (netlist_of plan names cells nets conns) { conns = map (λ (k : KeptConn). k.conn) conns ++ kept.conn ∷ [] }) refl refl)
-               (conns ++ kept ∷ [])
-               (All-push (IsKeptConn (netlist_of plan names cells nets conns)) conns kept is.offsets (record {
-                 top = pin_is_offset (netlist_of plan names cells nets conns) kept.conn name Top kept.top top;
-                 bottom = pin_is_offset (netlist_of plan names cells nets conns) kept.conn name Bottom kept.bottom bottom;
-               })));
+              (same_kept_conn (netlist_of plan names cells nets conns) (record (netlist_of plan names cells nets conns) { conns = map (λ (k : KeptConn). k.conn) conns ++ kept.conn ∷ [] }) refl refl)
+              (conns ++ kept ∷ [])
+              (All-push (IsKeptConn (netlist_of plan names cells nets conns)) conns kept is.offsets (record {
+                top = pin_is_offset (netlist_of plan names cells nets conns) kept.conn name Top kept.top top;
+                bottom = pin_is_offset (netlist_of plan names cells nets conns) kept.conn name Bottom kept.bottom bottom;
+              })));
         }
 
 -- where nothing refuses
@@ -420,8 +431,8 @@ pub size_seen : (plan : Plan) (names : List (List ℕ)) (cells : List KeptCell) 
 size_seen plan names cells nets conns p s cell die kept size within read is =
     subst (IsSeenSize p cell die) (sym is)
     (size_shown p cell die (size_kept kept die)
-     (size_of_kept p.plan kept (lib_of p cell) die (lib_read cells p cell kept s.lib s.many within read)
-      (subst (IsKeptCell p.plan) (sym read) (s.cell cell kept (omega (arith, s.many))))))
+    (size_of_kept p.plan kept (lib_of p cell) die (lib_read cells p cell kept s.lib s.many within read)
+    (subst (IsKeptCell p.plan) (sym read) (s.cell cell kept (omega (arith, s.many))))))
 
 -- and what is kept with a connection
 offset_of_kept : (p : Netlist) (kept : KeptConn) (die : Die) → IsKeptConn p kept → IsOffsetOf p kept.conn die (offset_kept kept die)
@@ -463,10 +474,10 @@ pub cell_members : (conns : List KeptConn) (p : Netlist) (k : ℕ) → map (λ k
 unfolding conns_of_cell
 cell_members conns p k same =
     ap (map conn_id) (sym (ids_where-map (λ (kept : KeptConn). kept.conn.cell.0) (λ key. key == k) 0 conns) ∙ ids_where-map (λ (kept : KeptConn). kept.conn) (λ (conn : Conn). conn.cell.0 == k) 0 conns
-     ∙ ap (ids_where (λ (conn : Conn). conn.cell.0 == k) 0) same)
+    ∙ ap (ids_where (λ (conn : Conn). conn.cell.0 == k) 0) same)
 
 pub net_members : (conns : List KeptConn) (p : Netlist) (k : ℕ) → map (λ kept. kept.conn) conns ≡ p.conns → members_of k (net_keys conns) ≡ map conn_id (conns_of_net p k)
 unfolding conns_of_net
 net_members conns p k same =
     ap (map conn_id) (sym (ids_where-map (λ (kept : KeptConn). kept.conn.net.0) (λ key. key == k) 0 conns) ∙ ids_where-map (λ (kept : KeptConn). kept.conn) (λ (conn : Conn). conn.net.0 == k) 0 conns
-     ∙ ap (ids_where (λ (conn : Conn). conn.net.0 == k) 0) same)
+    ∙ ap (ids_where (λ (conn : Conn). conn.net.0 == k) 0) same)

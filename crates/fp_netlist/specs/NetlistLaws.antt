@@ -1,5 +1,5 @@
 -- Laws of a problem's lists and of its library cells.
-use Rattle.std.specs.Prelude.{◌≡◌, ◌==◌, ℕ, ◌+◌, ◌<◌, ◌≤◌, ◌^◌, Bool, true, false, List, [], ◌∷◌, length, All, Contains, Option, Some, None, is_some, option_map, unwrap_or, slice_get, slice_index, if◌then◌else◌, nat_eq}
+use Rattle.std.specs.Prelude.{◌≡◌, ◌==◌, ℕ, ◌+◌, ◌<◌, ◌≤◌, ◌^◌, Bool, true, false, List, [], ◌∷◌, length, All, Contains, Option, Some, None, is_some, option_map, unwrap_or, slice_get, slice_index, if◌then◌else◌}
 use Rattle.std.proofs.Common.{zero, suc, get_or, refl, sym, ap, subst, ◌∙◌, arith}
 use Rattle.std.proofs.lemmas.List.Elements.{All-nil, All-cons, All-weaker}
 use Rattle.std.proofs.lemmas.Option.{same_Some, slice_get_within, slice_get-get_or, get_or_from_slice_get}
@@ -11,7 +11,7 @@ use Rattle.fp_tech.specs.Book.{Pin, Lib, IsLib}
 use Rattle.fp_tech.specs.BookLaws.{cell_within}
 use Rattle.fp_tech.specs.Plan.{spec_of}
 use Rattle.fp_netlist.specs.declared.problem.Conn.{Conn}
-use Rattle.fp_netlist.specs.Netlist.{Cell, Netlist, ids_where, conns_of_cell, conns_of_net, lib_for, lib_at, lib_of, pin_count, IsCell, IsConn, IsSound}
+use Rattle.fp_netlist.specs.Netlist.{Cell, Netlist, ids_where, conns_of_cell, conns_of_net, lib_at, lib_of, pin_count, IsConn, IsSound}
 use Rattle.fp_netlist.specs.Points.{no_lib, no_pin, lib_on, pin_of, pin_on}
 
 -- a number that is counted from i is that of an element which passes
@@ -31,6 +31,7 @@ places {A} test i (x ∷ xs) = by (test x) refl (places test (i + 1) xs)
     later rest = All-weaker (IsPlace test (i + 1) xs) (IsPlace test i (x ∷ xs))
         (λ k is. record { place = suc is.place; counted = omega (arith, is.counted); element = is.element; at = is.at; passes = is.passes })
         (ids_where test (i + 1) xs) rest
+
     by : (b : Bool) → test x ≡ b → All (IsPlace test (i + 1) xs) (ids_where test (i + 1) xs) → All (IsPlace test i (x ∷ xs)) (if b then i ∷ ids_where test (i + 1) xs else ids_where test (i + 1) xs)
     by true e rest = All-cons (IsPlace test i (x ∷ xs)) i (ids_where test (i + 1) xs)
         (record { place = zero; counted = omega arith; element = x; at = refl; passes = e }) (later rest)
@@ -126,11 +127,14 @@ lib_there p cell die is below = by (lib_at p (lib_of p cell) die) (some die)
   where
     d : Cell
     d = record { name = []; lib = 0 }
+
     lib_is : lib_of p cell ≡ (get_or p.cells cell d).lib
     lib_is = ap (λ o. unwrap_or (option_map (λ (c : Cell). c.lib) o) 0) (slice_get-get_or p.cells cell d below)
+
     some : (die : Die) → is_some (lib_at p (lib_of p cell) die) ≡ true
     some Top = subst (λ l. is_some (lib_at p l Top) ≡ true) (sym lib_is) (is.cells cell d below).top
     some Bottom = subst (λ l. is_some (lib_at p l Bottom) ≡ true) (sym lib_is) (is.cells cell d below).bottom
+
     by : (o : Option Lib) → is_some o ≡ true → o ≡ Some (unwrap_or o no_lib)
     by None e = absurd (let nothing : false ≡ true = e in cc)
     by (Some l) e = refl
@@ -145,9 +149,11 @@ pin_there p conn die is conn_is = by (slice_get (lib_on p conn.cell.0 die).pins 
   where
     many : (die : Die) → pin_count p conn.cell.0 die ≡ length (lib_on p conn.cell.0 die).pins
     many die = ap (λ o. unwrap_or (option_map (λ (l : Lib). length l.pins) o) 0) (lib_there p conn.cell.0 die is conn_is.cell)
+
     within : (die : Die) → pin_of conn die < length (lib_on p conn.cell.0 die).pins
     within Top = omega (arith, conn_is.top_pin, many Top)
     within Bottom = omega (arith, conn_is.bottom_pin, many Bottom)
+
     by : (o : Option Pin) → o ≡ Some (get_or (lib_on p conn.cell.0 die).pins (pin_of conn die) no_pin) → o ≡ Some (unwrap_or o no_pin)
     by None e = absurd (let nothing : None ≡ Some (get_or (lib_on p conn.cell.0 die).pins (pin_of conn die) no_pin) = e in cc)
     by (Some pin) e = refl

@@ -20,11 +20,11 @@ pub struct KeptCell {
 impl KeptCell {
     /// A cell of a library cell, or None where the technology of either die lacks it.
     pub fn of(dies: &Dies, lib: LibId) -> Option<KeptCell>
-        ensures {
-            MatchOption result
-                (IsTrue (is_none (lib_for dies.now lib.0 Top) || is_none (lib_for dies.now lib.0 Bottom)))
-                (λ kept. (kept.lib ≡ lib) × IsKeptCell dies.now kept)
-        }
+        ensures { MatchOption result
+            (IsTrue
+            (is_none (lib_for dies.now lib.0 Top)
+            || is_none (lib_for dies.now lib.0 Bottom)))
+            (λ kept. (kept.lib ≡ lib) × IsKeptCell dies.now kept) }
     {
         let top = size_on(dies, lib, Die::Top)?;
         let bottom = size_on(dies, lib, Die::Bottom)?;
@@ -51,15 +51,16 @@ pub struct KeptConn {
 }
 
 impl KeptConn {
-    /// The connection of a pin of a cell of that library cell, or None where it lacks the pin on either die.
+    /// The connection of a pin of a cell of that library cell, or None where it lacks the pin on
+    /// either die.
     pub fn of(dies: &Dies, lib: LibId, net: NetId, cell: CellId, pin: &[u8]) -> Option<KeptConn>
         requires top { IsSome (lib_for dies.now lib.0 Top) }
         requires bottom { IsSome (lib_for dies.now lib.0 Bottom) }
-        ensures {
-            MatchOption result
-                (IsTrue (is_none (pin_for dies.now lib.0 pin.now Top) || is_none (pin_for dies.now lib.0 pin.now Bottom)))
-                (IsConnOf dies.now lib.0 net cell pin.now)
-        }
+        ensures { MatchOption result
+            (IsTrue
+            (is_none (pin_for dies.now lib.0 pin.now Top)
+            || is_none (pin_for dies.now lib.0 pin.now Bottom)))
+            (IsConnOf dies.now lib.0 net cell pin.now) }
     {
         let (top_pin, top) = pin_on(dies, lib, pin, Die::Top)?;
         let (bottom_pin, bottom) = pin_on(dies, lib, pin, Die::Bottom)?;
@@ -85,9 +86,7 @@ impl KeptConn {
 
 // Width and height of a library cell in the technology of a die.
 fn size_on(dies: &Dies, lib: LibId, die: Die) -> Option<(u32, u32)>
-    ensures {
-        MatchOption result (lib_for dies.now lib.0 die ≡ None) (IsSizeOf (lib_for dies.now lib.0 die))
-    }
+    ensures { MatchOption result (lib_for dies.now lib.0 die ≡ None) (IsSizeOf (lib_for dies.now lib.0 die)) }
 {
     let tech = dies.spec(die).tech;
     let book = dies.book();
@@ -101,10 +100,8 @@ fn size_on(dies: &Dies, lib: LibId, die: Die) -> Option<(u32, u32)>
 // The number and the offset of a library cell's pin in the technology of a die.
 fn pin_on(dies: &Dies, lib: LibId, name: &[u8], die: Die) -> Option<(u32, (u32, u32))>
     requires { IsSome (lib_for dies.now lib.0 die) }
-    ensures {
-        MatchOption result (pin_for dies.now lib.0 name.now die ≡ None)
-            (λ found. IsPinOf dies.now lib.0 name.now die found.0 found.1)
-    }
+    ensures { MatchOption result (pin_for dies.now lib.0 name.now die ≡ None)
+        (λ found. IsPinOf dies.now lib.0 name.now die found.0 found.1) }
 {
     let tech = dies.spec(die).tech;
     let book = dies.book();

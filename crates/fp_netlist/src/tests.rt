@@ -27,8 +27,8 @@ fn add_inverter(
     Ok(inverter)
 }
 
-/// Two technologies with an inverter of two sizes, whose pins stand in different orders at different places. The first
-/// one alone has a buffer, and its inverter alone a pin Z.
+/// Two technologies with an inverter of two sizes, whose pins stand in different orders at
+/// different places. The first one alone has a buffer, and its inverter alone a pin Z.
 fn two_technologies(rt: &impl Abort, book: &mut TechBook) -> Result<(LibId, LibId), BuildFault> {
     let first = book.add_tech(b"TA")?;
     let second = book.add_tech(b"TB")?;
@@ -115,8 +115,14 @@ fn names_and_links(rt: &impl Abort, problem: &Problem) {
     assert_eq!(rt; problem.cell_name(CellId(0)), b"u1".as_slice());
     assert_eq!(rt; problem.net_name(NetId(0)), b"n1".as_slice());
     assert_eq!(rt; problem.lib_of(CellId(1)), LibId(0));
-    assert_eq!(rt; problem.conns_of_net(NetId(0)), [ConnId(0), ConnId(1), ConnId(2)].as_slice());
-    assert_eq!(rt; problem.conns_of_cell(CellId(0)), [ConnId(0), ConnId(2)].as_slice());
+    assert_eq!(rt;
+        problem.conns_of_net(NetId(0)),
+        [ConnId(0), ConnId(1), ConnId(2)].as_slice()
+    );
+    assert_eq!(rt;
+        problem.conns_of_cell(CellId(0)),
+        [ConnId(0), ConnId(2)].as_slice()
+    );
     assert_eq!(rt; problem.conns_of_cell(CellId(1)), [ConnId(1)].as_slice());
 }
 

@@ -1,13 +1,9 @@
-use Rattle.std.proofs.Common.{rules, ◌≡◌, ◌==◌, ◌+◌, ◌<◌, ◌≤◌, ◌^◌, ◌∙◌, ◌++◌, ◌∷◌, ◌||◌, [], true, false, refl, ap, sym, subst, Some, None, IsTrue, IsSome, is_some, is_none, length, map, take, unwrap_or, slice_get, get_or, arith}
+use Rattle.std.proofs.Common.{◌≡◌, ◌<◌, ◌^◌, ◌||◌, false, refl, ap, sym, subst, IsTrue, is_none, length, arith}
 use Rattle.std.proofs.lemmas.Grind.{common_steps}
-use Rattle.fp_base.specs.declared.ids.LibId.{LibId}
 use Rattle.fp_base.specs.declared.ids.Die.TheVariants.{Top, Bottom}
-use Rattle.fp_tech.specs.Book.{place_of, is_among, refusal}
-use Rattle.fp_netlist.specs.Netlist.{Netlist, cell_names, lib_for, lib_at, lib_of, pin_for, inst_refusal, net_refusal, connect_refusal, with_inst, with_net, with_conn}
-use Rattle.fp_netlist.specs.declared.kept.KeptCell.{KeptCell}
-use Rattle.fp_netlist.specs.declared.kept.KeptConn.{KeptConn}
-use Rattle.fp_netlist.specs.KeptNetlist.{IsKept, IsKeptCell, IsConnOf}
-use Rattle.fp_netlist.proofs.NetlistLemmas.{IsSeen, seen, IsKeptAs, nothing_kept, inst_added, net_added, conn_added, nothing_refused, refused_full, refused_twice, refused_unknown, none_if, lib_read, lib_there, lib_known, pin_known}
+use Rattle.fp_netlist.specs.Netlist.{lib_of, pin_for, with_conn}
+use Rattle.fp_netlist.specs.KeptNetlist.{IsKeptCell, IsConnOf}
+use Rattle.fp_netlist.proofs.NetlistLemmas.{seen, IsKeptAs, conn_added, nothing_refused, refused_unknown, lib_read, lib_there, pin_known}
 use Rattle.fp_netlist.proofs.builder.ProblemBuilder.connect.Goals as goal
 
 pub index-requires : goal.index-requires
@@ -29,10 +25,12 @@ of-requires-clause-bottom c = lib_there c.self.inside.dies c.index.result.now Bo
 
 pub returns-in_default : goal.returns-in_default
 returns-in_default c =
-    let s = seen _ _ _ _ _ _ c.self.invariant c.self.view_is in
-    (refused_unknown (length c.args.self.now.conns) (2 ^ 21) false _ (omega (arith, c.len-count.ensures, c.if-count-ge-CONNS.false, s.many_conns, c.self.inside.conns.ok.0)) refl
-     (subst (λ plan. IsTrue (is_none (pin_for plan (lib_of c.args.self.now c.args.cell.0) c.args.pin.now Top) || is_none (pin_for plan (lib_of c.args.self.now c.args.cell.0) c.args.pin.now Bottom))) s.plan_is
-      (subst (λ l. IsTrue (is_none (pin_for c.self.inside.dies l c.args.pin.now Top) || is_none (pin_for c.self.inside.dies l c.args.pin.now Bottom))) (lib_read c.self.inside.cells.items c.args.self.now c.args.cell.0 c.index.result.now s.lib s.many c.requires.cell c.index.ensures) c.in_default.ensures)), refl)
+    let s = seen _ _ _ _ _ _ c.self.invariant c.self.view_is in (
+      refused_unknown (length c.args.self.now.conns) (2 ^ 21) false _ (omega (arith, c.len-count.ensures, c.if-count-ge-CONNS.false, s.many_conns, c.self.inside.conns.ok.0)) refl
+          (subst (λ plan. IsTrue (is_none (pin_for plan (lib_of c.args.self.now c.args.cell.0) c.args.pin.now Top) || is_none (pin_for plan (lib_of c.args.self.now c.args.cell.0) c.args.pin.now Bottom))) s.plan_is
+          (subst (λ l. IsTrue (is_none (pin_for c.self.inside.dies l c.args.pin.now Top) || is_none (pin_for c.self.inside.dies l c.args.pin.now Bottom))) (lib_read c.self.inside.cells.items c.args.self.now c.args.cell.0 c.index.result.now s.lib s.many c.requires.cell c.index.ensures) c.in_default.ensures)),
+      refl,
+    )
 
 of : (c : goal.In_ok-push) → IsConnOf c.self.inside.dies (lib_of c.args.self.now c.args.cell.0) c.args.net c.args.cell c.args.pin.now c.in-Some.conn
 of c =
@@ -51,8 +49,10 @@ invariant_of-self-2 c = (added c).kept
 pub returns : goal.returns
 returns c =
     let s = seen _ _ _ _ _ _ c.self.invariant c.self.view_is in
-    let many : c.len-count.result ≡ length c.args.self.now.conns = omega (arith, c.len-count.ensures, s.many_conns, c.self.inside.conns.ok.0) in
-    (nothing_refused (length c.args.self.now.conns) (2 ^ 21) false _ (omega (arith, c.len-count.ensures, c.if-count-ge-CONNS.false, s.many_conns, c.self.inside.conns.ok.0)) refl
-     (subst (λ plan. (is_none (pin_for plan (lib_of c.args.self.now c.args.cell.0) c.args.pin.now Top) || is_none (pin_for plan (lib_of c.args.self.now c.args.cell.0) c.args.pin.now Bottom)) ≡ false) s.plan_is
-      (pin_known c.self.inside.dies (lib_of c.args.self.now c.args.cell.0) c.args.net c.args.cell c.args.pin.now c.in-Some.conn (of c))),
-     ap (λ n. record { 0 = n }) many, (added c).view)
+    let many : c.len-count.result ≡ length c.args.self.now.conns = omega (arith, c.len-count.ensures, s.many_conns, c.self.inside.conns.ok.0) in (
+      nothing_refused (length c.args.self.now.conns) (2 ^ 21) false _ (omega (arith, c.len-count.ensures, c.if-count-ge-CONNS.false, s.many_conns, c.self.inside.conns.ok.0)) refl
+          (subst (λ plan. (is_none (pin_for plan (lib_of c.args.self.now c.args.cell.0) c.args.pin.now Top) || is_none (pin_for plan (lib_of c.args.self.now c.args.cell.0) c.args.pin.now Bottom)) ≡ false) s.plan_is
+          (pin_known c.self.inside.dies (lib_of c.args.self.now c.args.cell.0) c.args.net c.args.cell c.args.pin.now c.in-Some.conn (of c))),
+      ap (λ n. record { 0 = n }) many,
+      (added c).view,
+    )

@@ -1,22 +1,17 @@
-use Rattle.std.proofs.Common.{rules, ◌≡◌, ◌+◌, ◌<◌, ◌≤◌, ◌∙◌, refl, ap, sym, subst, Some, length, map, slice_get, get_or, arith}
+use Rattle.std.proofs.Common.{◌∙◌, ap, sym, Some}
 use Rattle.std.specs.Option.{option_map}
-use Rattle.std.proofs.lemmas.Grind.{common_steps}
-use Rattle.std.proofs.lemmas.Option.{get_or_from_slice_get}
-use Rattle.fp_tech.specs.Book.{place_of}
-use Rattle.fp_netlist.specs.declared.problem.Conn.{Conn}
-use Rattle.fp_netlist.specs.Netlist.{cell_names}
 use Rattle.fp_netlist.specs.Points.{offset}
-use Rattle.fp_netlist.proofs.NetlistLemmas.{seen, size_seen, offset_seen, lib_read, conn_at, conn_in_range, keys_in_range, cell_members, net_members}
+use Rattle.fp_netlist.proofs.NetlistLemmas.{seen, offset_seen, conn_at}
 use Rattle.fp_netlist.proofs.problem.Problem.offset.Goals as goal
 
 pub returns-clause-offset : goal.returns-clause-offset
 returns-clause-offset c =
     let s = seen _ _ _ _ _ _ c.self.invariant.kept c.self.view_is in
     ap (option_map (λ conn. offset c.args.self.now conn c.args.die))
-       (conn_at c.self.inside.conns.items c.args.self.now.conns c.args.conn.0 c.index.result.now s.conns_are c.requires c.index.ensures)
+    (conn_at c.self.inside.conns.items c.args.self.now.conns c.args.conn.0 c.index.result.now s.conns_are c.requires c.index.ensures)
     ∙ ap Some
-      ((offset_seen c.self.inside.dies c.self.inside.cell_names c.self.inside.cells.items c.self.inside.net_names c.self.inside.conns.items c.args.self.now s c.args.conn.0 c.args.die c.index.result.now c.offset.result c.requires c.index.ensures c.offset.ensures).is
-       ∙ sym c.point.ensures.point)
+    ((offset_seen c.self.inside.dies c.self.inside.cell_names c.self.inside.cells.items c.self.inside.net_names c.self.inside.conns.items c.args.self.now s c.args.conn.0 c.args.die c.index.result.now c.offset.result c.requires c.index.ensures c.offset.ensures).is
+    ∙ sym c.point.ensures.point)
 
 pub returns-clause-x : goal.returns-clause-x
 returns-clause-x c =
