@@ -61,7 +61,7 @@ struct Ended {
 }
 
 /// A run of these words over a folder whose `a` holds the input, if any, and whose calls of these numbers fail.
-fn ended(
+fn run_words(
     alloc: Global,
     words: &str,
     input: Option<&str>,
@@ -98,7 +98,7 @@ fn seeds_inputs_without_cells(rt: HostRuntime) -> Result<(), Fail> {
         ),
     ] {
         let input = with_line(rt.alloc(), line, text)?;
-        let end = ended(rt.alloc(), "seed a o", Some(input.as_str()), &[], &[])?;
+        let end = run_words(rt.alloc(), "seed a o", Some(input.as_str()), &[], &[])?;
         assert_eq!(rt; end.status, 0, "{text}");
         assert_eq!(rt; end.out.written(), report.as_bytes(), "{text}");
         assert!(rt; end.folder.file("o") == Some(PLACED.as_bytes()), "{text}");
@@ -126,7 +126,7 @@ fn reports_the_first_fault(rt: HostRuntime) -> Result<(), Fail> {
         (16, "NumInstances 1", "input a 281 limit\n"),
     ] {
         let input = with_line(rt.alloc(), line, text)?;
-        let end = ended(rt.alloc(), "seed a o", Some(input.as_str()), &[], &[])?;
+        let end = run_words(rt.alloc(), "seed a o", Some(input.as_str()), &[], &[])?;
         assert_eq!(rt; end.status, 3, "{text}");
         assert_eq!(rt; end.out.written(), report.as_bytes(), "{text}");
         assert!(rt; end.folder.file("o").is_none(), "{text}");
@@ -137,7 +137,7 @@ fn reports_the_first_fault(rt: HostRuntime) -> Result<(), Fail> {
 #[test]
 fn other_words_are_no_request(rt: HostRuntime) -> Result<(), Fail> {
     for words in ["", "seed a", "seed a a", "place a o c", "seed a o c"] {
-        let end = ended(rt.alloc(), words, None, &[], &[])?;
+        let end = run_words(rt.alloc(), words, None, &[], &[])?;
         assert_eq!(rt; end.status, 2, "{words}");
         assert_eq!(rt; end.out.written(), b"words\n".as_slice(), "{words}");
         assert_eq!(rt; end.folder.calls(), 0, "{words}");
@@ -147,7 +147,7 @@ fn other_words_are_no_request(rt: HostRuntime) -> Result<(), Fail> {
 
 #[test]
 fn a_missing_file_is_told_and_none_is_made(rt: HostRuntime) -> Result<(), Fail> {
-    let end = ended(rt.alloc(), "seed a o", None, &[], &[])?;
+    let end = run_words(rt.alloc(), "seed a o", None, &[], &[])?;
     assert_eq!(rt; end.status, 3);
     assert_eq!(rt; end.out.written(), b"input a 0 missing\n".as_slice());
     assert!(rt; end.folder.file("o").is_none());
@@ -157,7 +157,7 @@ fn a_missing_file_is_told_and_none_is_made(rt: HostRuntime) -> Result<(), Fail> 
 #[test]
 fn a_folder_that_fails_at_once_prints_nothing(rt: HostRuntime) -> Result<(), Fail> {
     let input = with_line(rt.alloc(), NONE, "")?;
-    let end = ended(rt.alloc(), "seed a o", Some(input.as_str()), &[0], &[])?;
+    let end = run_words(rt.alloc(), "seed a o", Some(input.as_str()), &[0], &[])?;
     assert_eq!(rt; end.status, 6);
     assert_eq!(rt; end.out.calls(), 0);
     Ok(())
@@ -166,7 +166,7 @@ fn a_folder_that_fails_at_once_prints_nothing(rt: HostRuntime) -> Result<(), Fai
 #[test]
 fn a_sink_that_fails_leaves_the_output_whole(rt: HostRuntime) -> Result<(), Fail> {
     let input = with_line(rt.alloc(), NONE, "")?;
-    let end = ended(rt.alloc(), "seed a o", Some(input.as_str()), &[], &[0])?;
+    let end = run_words(rt.alloc(), "seed a o", Some(input.as_str()), &[], &[0])?;
     assert_eq!(rt; end.status, 6);
     assert!(rt; end.folder.file("o") == Some(PLACED.as_bytes()));
     Ok(())

@@ -20,9 +20,8 @@ const CELLS: usize = 1 << 18;
 /// The most connections.
 const CONNS: usize = 1 << 21;
 
-/// A problem as it grows: cells, nets and connections are numbered from 0 in the order of adding.
-/// At most 2^18 cells, 2^18 nets and 2^21 connections (this project's limits). After a refusal or
-/// want of memory all is as it was.
+/// A problem as it grows: cells, nets and connections are numbered from 0 in the order of adding. At most 2^18 cells,
+/// 2^18 nets and 2^21 connections. A refusal, or want of memory, leaves all as it was.
 #[derive(Drop)]
 pub struct ProblemBuilder {
     alloc: Global,
@@ -60,12 +59,11 @@ impl ProblemBuilder {
         }
     }
 
-    /// Adds a cell of a library cell. `Limit` exactly at 2^18 cells, else `Twice` exactly where a
-    /// cell has the name, else `Unknown` exactly where the technology of either die lacks the
-    /// library cell.
+    /// Adds a cell of a library cell. `Limit` exactly at 2^18 cells, else `Twice` exactly where a cell has the name,
+    /// else `Unknown` exactly where the technology of either die lacks the library cell.
     pub fn add_inst(&mut self, name: &[u8], lib: LibId) -> Result<CellId, BuildFault>
-        ensures { Adds (inst_refusal self.old name.now lib.0) (record { 0 = length self.old.cells })
-            self.old (with_inst self.old name.now lib.0) result self.new }
+        ensures { Adds (inst_refusal self.old name.now lib.0) (record { 0 = length self.old.cells }) self.old
+            (with_inst self.old name.now lib.0) result self.new }
     {
         let count = self.cells.len();
         if count >= CELLS {
@@ -87,8 +85,8 @@ impl ProblemBuilder {
 
     /// Adds a net. `Limit` exactly at 2^18 nets, else `Twice` exactly where a net has the name.
     pub fn add_net(&mut self, name: &[u8]) -> Result<NetId, BuildFault>
-        ensures { Adds (net_refusal self.old name.now) (record { 0 = length self.old.nets })
-            self.old (with_net self.old name.now) result self.new }
+        ensures { Adds (net_refusal self.old name.now) (record { 0 = length self.old.nets }) self.old
+            (with_net self.old name.now) result self.new }
     {
         let count = self.net_names.len();
         if count >= CELLS {
@@ -101,14 +99,14 @@ impl ProblemBuilder {
         Ok(NetId(count as u32))
     }
 
-    /// Adds a connection of a net with a cell's pin; both are there. `Limit` exactly at 2^21
-    /// connections, else `Unknown` exactly where the cell's library cell lacks the pin in the
-    /// technology of either die. A pin may be connected again: that is one more connection.
+    /// Adds a connection of a net with a cell's pin; both are there. `Limit` exactly at 2^21 connections, else `Unknown`
+    /// exactly where the cell's library cell lacks the pin in the technology of either die. A pin may be connected
+    /// again: that is one more connection.
     pub fn connect(&mut self, net: NetId, cell: CellId, pin: &[u8]) -> Result<ConnId, BuildFault>
         requires net { net.0 < length self.old.nets }
         requires cell { cell.0 < length self.old.cells }
-        ensures { Adds (connect_refusal self.old cell.0 pin.now) (record { 0 = length self.old.conns })
-            self.old (with_conn self.old net.0 cell.0 pin.now) result self.new }
+        ensures { Adds (connect_refusal self.old cell.0 pin.now) (record { 0 = length self.old.conns }) self.old
+            (with_conn self.old net.0 cell.0 pin.now) result self.new }
     {
         let count = self.conns.len();
         if count >= CONNS {
@@ -122,8 +120,8 @@ impl ProblemBuilder {
         Ok(ConnId(count as u32))
     }
 
-    /// The problem as it stands, with the connections of each cell and of each net. Where memory is
-    /// wanting the builder is dropped.
+    /// The problem as it stands, with the connections of each cell and of each net. Where memory is wanting the builder
+    /// is dropped.
     pub fn finish(self) -> Result<Problem, NoMemory>
         ensures { IfOk result (λ problem. problem ≡ self) }
     {

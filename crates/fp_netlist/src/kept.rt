@@ -21,9 +21,7 @@ impl KeptCell {
     /// A cell of a library cell, or None where the technology of either die lacks it.
     pub fn of(dies: &Dies, lib: LibId) -> Option<KeptCell>
         ensures { MatchOption result
-            (IsTrue
-            (is_none (lib_for dies.now lib.0 Top)
-            || is_none (lib_for dies.now lib.0 Bottom)))
+            (IsTrue (is_none (lib_for dies.now lib.0 Top) || is_none (lib_for dies.now lib.0 Bottom)))
             (λ kept. (kept.lib ≡ lib) × IsKeptCell dies.now kept) }
     {
         let top = size_on(dies, lib, Die::Top)?;
@@ -51,15 +49,12 @@ pub struct KeptConn {
 }
 
 impl KeptConn {
-    /// The connection of a pin of a cell of that library cell, or None where it lacks the pin on
-    /// either die.
+    /// The connection of a pin of a cell of that library cell, or None where it lacks the pin on either die.
     pub fn of(dies: &Dies, lib: LibId, net: NetId, cell: CellId, pin: &[u8]) -> Option<KeptConn>
         requires top { IsSome (lib_for dies.now lib.0 Top) }
         requires bottom { IsSome (lib_for dies.now lib.0 Bottom) }
         ensures { MatchOption result
-            (IsTrue
-            (is_none (pin_for dies.now lib.0 pin.now Top)
-            || is_none (pin_for dies.now lib.0 pin.now Bottom)))
+            (IsTrue (is_none (pin_for dies.now lib.0 pin.now Top) || is_none (pin_for dies.now lib.0 pin.now Bottom)))
             (IsConnOf dies.now lib.0 net cell pin.now) }
     {
         let (top_pin, top) = pin_on(dies, lib, pin, Die::Top)?;

@@ -1,0 +1,7 @@
+pub mod LeastShown
+pub mod Tree
+pub mod Grow
+pub mod Steps
+pub mod HandBack
+pub mod Insert
+pub mod Assigned

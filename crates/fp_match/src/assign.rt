@@ -1,0 +1,74 @@
+//! A matching of all rows, built up row by row.
+
+ghost use Rattle.std.specs.Prelude.{◌≡◌, ◌<◌, ◌≤◌, ◌+◌, ℕ, length};
+ghost use Rattle.fp_match.specs.Search.{AreFar, IsTree, IsMatching, Fits, IsGrown, IsRoomy, SameSizes, SameRooms, IsCleared};
+
+use crate::choice::UNUSED;
+use crate::costs::Costs;
+use crate::labels::Labels;
+use crate::matching::{Matching, hand_back, raise};
+use crate::scan::scan_row;
+
+/// Takes all columns from their rows, and makes every price 0.
+fn clear(matching: &mut Matching)
+    ensures cleared { IsCleared matching.new }
+    ensures sizes { SameSizes matching.old matching.new }
+{
+    matching.owner.fill(UNUSED);
+    matching.prices.fill(0);
+}
+
+/// Settles rows, nearest first, until no row that waits lies nearer than the nearest unused column.
+fn grow<C: Costs>(costs: &C, matching: &Matching, labels: &mut Labels, row: u32)
+    requires tree { IsTree (C.cost_of costs.now) (C.column_count costs.now) row matching.now labels.old }
+    requires matched { IsMatching (C.cost_of costs.now) (C.column_count costs.now) row matching.now }
+    requires fits { Fits (C.column_count costs.now) row matching.now }
+    requires row_in { row < C.row_count costs.now }
+    requires some { 0 < C.column_count costs.now }
+    ensures grown { IsGrown (C.cost_of costs.now) (C.column_count costs.now) row matching.now labels.new }
+    ensures rooms { SameRooms labels.old labels.new }
+{
+    scan_row(costs, matching, labels, row);
+    loop {
+        if !labels.take_nearest() {
+            return;
+        }
+        scan_row(costs, matching, labels, row);
+    }
+}
+
+/// Gives one row more a column, so that the rows so far keep least total cost.
+fn insert<C: Costs>(costs: &C, matching: &mut Matching, labels: &mut Labels, row: u32)
+    requires row_in { row < C.row_count costs.now }
+    requires few { C.row_count costs.now ≤ C.column_count costs.now }
+    requires room { IsRoomy (C.row_count costs.now) (C.column_count costs.now) matching.old labels.old }
+    requires matched { IsMatching (C.cost_of costs.now) (C.column_count costs.now) row matching.old }
+    requires all_far { AreFar labels.old }
+    ensures matched { IsMatching (C.cost_of costs.now) (C.column_count costs.now) (row + 1) matching.new }
+    ensures all_far { AreFar labels.new }
+    ensures sizes { SameSizes matching.old matching.new }
+    ensures rooms { SameRooms labels.old labels.new }
+{
+    let _limits = costs.rows();
+    labels.start(row);
+    grow(costs, matching, labels, row);
+    raise(&matching.column_of, &mut matching.prices, labels);
+    hand_back(costs, matching, labels, row);
+    labels.reset();
+}
+
+/// Gives each row a column of its own at least total cost, with prices that show it.
+pub(crate) fn assign<C: Costs>(costs: &C, matching: &mut Matching, labels: &mut Labels)
+    requires few { C.row_count costs.now ≤ C.column_count costs.now }
+    requires room { IsRoomy (C.row_count costs.now) (C.column_count costs.now) matching.old labels.old }
+    requires all_far { AreFar labels.old }
+    ensures matched { IsMatching (C.cost_of costs.now) (C.column_count costs.now) (C.row_count costs.now) matching.new }
+    ensures all_far { AreFar labels.new }
+    ensures sizes { SameSizes matching.old matching.new }
+    ensures rooms { SameRooms labels.old labels.new }
+{
+    clear(matching);
+    for row in 0..costs.rows() {
+        insert(costs, matching, labels, row);
+    }
+}

@@ -1,0 +1,120 @@
+//! A search for a column: which rows it has reached, and how far they lie.
+
+ghost use Rattle.std.specs.Prelude.{◌≡◌, ◌↔◌, ◌<◌, ◌≤◌, ◌+◌, ℕ, IsTrue, length, slice_index};
+ghost use Rattle.std.specs.Bool.{OnTrue, OnFalse};
+ghost use Rattle.fp_match.specs.Search.{IsLowered, IsEntered, IsNearest, IsTaken, IsStarted, HasRoom, AreFar, CanTake, HasReached, CanReset, IsReset};
+
+/// The label of a row that is not reached. No distance comes near it.
+pub(crate) const FAR: u64 = 1 << 62;
+
+/// The rows that a search has reached, in the order of their distance as far as they are settled,
+/// and behind them those that wait.
+#[derive(Drop)]
+pub(crate) struct Labels {
+    /// By row, how far it lies from the row that the search began at, or `FAR`.
+    pub(crate) label: Vec<u64>,
+    /// By row, the place in `reached` of the row that it is reached from.
+    pub(crate) parent: Vec<usize>,
+    /// The rows that are reached. The first is the one that the search began at.
+    pub(crate) reached: Vec<u32>,
+    /// How many rows are reached.
+    pub(crate) count: usize,
+    /// The place of the row that was settled last. Those behind it wait.
+    pub(crate) at: usize,
+    /// How far the nearest unused column lies, as far as is known, or `FAR`.
+    pub(crate) level: u64,
+    /// That column.
+    pub(crate) sink: u32,
+    /// The place of the row that it is reached from.
+    pub(crate) last: usize,
+}
+
+impl Labels {
+    /// Begins a search at the row.
+    pub(crate) fn start(&mut self, row: u32)
+        requires { HasRoom row self.old }
+        ensures { IsStarted row self.old self.new }
+    {
+        self.label[row as usize] = 0;
+        self.reached[0] = row;
+        self.count = 1;
+        self.at = 0;
+        self.level = FAR;
+    }
+
+    /// Lowers the label of a row that waits.
+    pub(crate) fn lower(&mut self, row: u32, label: u64)
+        requires { HasRoom row self.old }
+        ensures { IsLowered self.old self.new row label }
+    {
+        self.label[row as usize] = label;
+        self.parent[row as usize] = self.at;
+    }
+
+    /// Labels a row that was not reached.
+    pub(crate) fn enter(&mut self, row: u32, label: u64)
+        requires room { HasRoom row self.old }
+        requires place { self.old.count < length self.old.reached.items }
+        ensures { IsEntered self.old self.new row label }
+    {
+        self.label[row as usize] = label;
+        self.parent[row as usize] = self.at;
+        self.reached[self.count] = row;
+        self.count += 1;
+    }
+
+    /// Makes a column the nearest unused one, reached from the row that was settled last.
+    pub(crate) fn sink_at(&mut self, column: u32, level: u64)
+        ensures { self.new ≡ record self.old { level = level; sink = column; last = self.old.at } }
+    {
+        self.level = level;
+        self.sink = column;
+        self.last = self.at;
+    }
+
+    /// The place of the nearest row that waits. It is `count` where none does.
+    fn nearest(&self) -> usize
+        requires { CanTake self.now }
+        ensures { IsNearest self.now result }
+    {
+        let mut best = self.at + 1;
+        for place in self.at + 1..self.count {
+            if self.label[self.reached[place] as usize] < self.label[self.reached[best] as usize] {
+                best = place;
+            }
+        }
+        best
+    }
+
+    /// Settles the nearest row that waits. It says false where none lies within the level.
+    pub(crate) fn take_nearest(&mut self) -> bool
+        requires { CanTake self.old }
+        ensures taken { OnTrue result (IsTaken self.old self.new) }
+        ensures stays { OnFalse result (self.new ≡ self.old) }
+        ensures none { OnFalse result (HasReached self.old) }
+    {
+        let place = self.nearest();
+        if place >= self.count {
+            return false;
+        }
+        let row = self.reached[place];
+        if self.label[row as usize] >= self.level {
+            return false;
+        }
+        self.at += 1;
+        self.reached[place] = self.reached[self.at];
+        self.reached[self.at] = row;
+        true
+    }
+
+    /// Takes the labels off all rows that were reached.
+    pub(crate) fn reset(&mut self)
+        requires { CanReset self.old }
+        ensures { IsReset self.old self.new }
+    {
+        for place in 0..self.count {
+            let row = self.reached[place] as usize;
+            self.label[row] = FAR;
+        }
+    }
+}

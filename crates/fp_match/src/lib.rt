@@ -1,0 +1,20 @@
+//! Assignment of rows to columns at least total cost, with prices of columns that show it.
+#![tactic(auto)]
+
+mod assign;
+mod choice;
+mod costs;
+mod labels;
+mod matcher;
+mod matching;
+mod scan;
+mod shown;
+mod stripes;
+
+pub use choice::{Choice, ChoiceFault};
+pub use costs::Costs;
+pub use matcher::Matcher;
+pub use shown::prices_shown;
+
+#[cfg(test)]
+mod tests;

@@ -1,0 +1,52 @@
+//! The rows that have columns so far, and the prices of all columns.
+
+ghost use Rattle.std.specs.Prelude.{◌≡◌, ◌<◌, ◌≤◌, ◌+◌, ℕ, length};
+ghost use Rattle.fp_match.specs.Owners.{Agree};
+ghost use Rattle.fp_match.specs.Search.{CanRaise, IsRaised, IsPath, IsHandedBack};
+
+use crate::costs::Costs;
+use crate::labels::Labels;
+
+/// Columns by row, rows by column and prices by column.
+#[derive(Drop)]
+pub(crate) struct Matching {
+    /// The column of each row.
+    pub(crate) column_of: Vec<u32>,
+    /// The row of each column, or `UNUSED`.
+    pub(crate) owner: Vec<u32>,
+    /// The price of each column.
+    pub(crate) prices: Vec<u64>,
+}
+
+/// Raises the prices of the columns of the tree's rows to where each lies as far as the level.
+pub(crate) fn raise(column_of: &[u32], prices: &mut [u64], labels: &Labels)
+    requires { CanRaise column_of.now prices.old labels.now }
+    ensures { IsRaised column_of.now prices.old prices.new labels.now }
+{
+    for place in 1..labels.at + 1 {
+        let row = labels.reached[place] as usize;
+        let column = column_of[row] as usize;
+        prices[column] += labels.level - labels.label[row];
+    }
+}
+
+/// Gives the sink to the row that reaches it, that row's column to the row before it, and so on back
+/// to the row that had none.
+pub(crate) fn hand_back<C: Costs>(costs: &C, matching: &mut Matching, labels: &Labels, row: u32)
+    requires { IsPath (C.cost_of costs.now) (C.column_count costs.now) row matching.old labels.now }
+    ensures { IsHandedBack (C.cost_of costs.now) (C.column_count costs.now) row matching.old matching.new }
+{
+    let _costs = costs;
+    let mut column = labels.sink;
+    let mut place = labels.last;
+    while place > 0 {
+        let current = labels.reached[place];
+        let left = matching.column_of[current as usize];
+        matching.column_of[current as usize] = column;
+        matching.owner[column as usize] = current;
+        column = left;
+        place = labels.parent[current as usize];
+    }
+    matching.column_of[row as usize] = column;
+    matching.owner[column as usize] = row;
+}

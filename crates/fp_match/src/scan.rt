@@ -1,0 +1,197 @@
+//! Looking at the columns that a settled row could have.
+
+ghost use Rattle.std.specs.Prelude.{◌≡◌, ◌<◌, ◌≤◌, ◌+◌, ◌*◌, ℕ, length};
+ghost use Rattle.fp_match.specs.Search.{IsTree, IsMatching, Fits, Offered, IsOffer, Scanned, IsTurn, StripeCovered, StripeScanned};
+
+use crate::choice::UNUSED;
+use crate::costs::Costs;
+use crate::labels::{FAR, Labels};
+use crate::matching::Matching;
+use crate::stripes::{stripe_count, stripe_end};
+
+/// The row that was settled last, how far it lies, and the cost and price of its column, 0 where it
+/// has none.
+#[derive(Clone, Copy)]
+struct Turn {
+    row: u32,
+    depth: u64,
+    least: u64,
+}
+
+/// Looks at a column that the row settled last reaches at this label.
+fn offer<C: Costs>(
+    costs: &C,
+    matching: &Matching,
+    labels: &mut Labels,
+    row: u32,
+    column: u32,
+    label: u64,
+)
+    requires tree { IsTree (C.cost_of costs.now) (C.column_count costs.now) row matching.now labels.old }
+    requires fits { Fits (C.column_count costs.now) row matching.now }
+    requires offer { IsOffer (C.cost_of costs.now) (C.column_count costs.now) row matching.now labels.old column label }
+    ensures { Offered (C.cost_of costs.now) (C.column_count costs.now) row matching.now labels.old labels.new column }
+{
+    let _costs = costs;
+    let holder = matching.owner[column as usize];
+    if holder == UNUSED {
+        labels.sink_at(column, label);
+        return;
+    }
+    let known = labels.label[holder as usize];
+    if known == FAR {
+        labels.enter(holder, label);
+        return;
+    }
+    if label < known {
+        labels.lower(holder, label);
+        return;
+    }
+}
+
+/// Looks at a column.
+fn look_at<C: Costs>(
+    costs: &C,
+    matching: &Matching,
+    labels: &mut Labels,
+    row: u32,
+    turn: Turn,
+    column: u32,
+)
+    requires tree { IsTree (C.cost_of costs.now) (C.column_count costs.now) row matching.now labels.old }
+    requires matched { IsMatching (C.cost_of costs.now) (C.column_count costs.now) row matching.now }
+    requires fits { Fits (C.column_count costs.now) row matching.now }
+    requires row_in { row < C.row_count costs.now }
+    requires turn { IsTurn (C.cost_of costs.now) row matching.now labels.old turn }
+    requires column_in { column < C.column_count costs.now }
+    ensures { Offered (C.cost_of costs.now) (C.column_count costs.now) row matching.now labels.old labels.new column }
+{
+    let _limits = costs.rows();
+    let value = turn.depth + (costs.cost(turn.row, column) + matching.prices[column as usize]);
+    if value >= labels.level + turn.least {
+        return;
+    }
+    offer(costs, matching, labels, row, column, value - turn.least);
+}
+
+/// Looks at the columns from `from` up to `to`.
+fn scan_columns<C: Costs>(
+    costs: &C,
+    matching: &Matching,
+    labels: &mut Labels,
+    row: u32,
+    turn: Turn,
+    from: u32,
+    to: u32,
+)
+    requires tree { IsTree (C.cost_of costs.now) (C.column_count costs.now) row matching.now labels.old }
+    requires matched { IsMatching (C.cost_of costs.now) (C.column_count costs.now) row matching.now }
+    requires fits { Fits (C.column_count costs.now) row matching.now }
+    requires row_in { row < C.row_count costs.now }
+    requires turn { IsTurn (C.cost_of costs.now) row matching.now labels.old turn }
+    requires order { from ≤ to }
+    requires to_in { to ≤ C.column_count costs.now }
+    ensures { Scanned (C.cost_of costs.now) (C.column_count costs.now) row matching.now labels.old labels.new from to }
+{
+    for column in from..to {
+        look_at(costs, matching, labels, row, turn, column);
+    }
+}
+
+/// Looks at the columns of a stripe, unless it is the one that was looked at first, or its floor
+/// shows that it holds nothing within the level.
+fn scan_stripe<C: Costs>(
+    costs: &C,
+    matching: &Matching,
+    labels: &mut Labels,
+    row: u32,
+    turn: Turn,
+    first: u32,
+    stripe: u32,
+)
+    requires tree { IsTree (C.cost_of costs.now) (C.column_count costs.now) row matching.now labels.old }
+    requires matched { IsMatching (C.cost_of costs.now) (C.column_count costs.now) row matching.now }
+    requires fits { Fits (C.column_count costs.now) row matching.now }
+    requires row_in { row < C.row_count costs.now }
+    requires turn { IsTurn (C.cost_of costs.now) row matching.now labels.old turn }
+    requires stripe_in { stripe * C.stripe_width costs.now < C.column_count costs.now }
+    requires first { StripeCovered (C.cost_of costs.now) (C.column_count costs.now) (C.stripe_width costs.now) row matching.now labels.old first }
+    ensures { StripeScanned (C.cost_of costs.now) (C.column_count costs.now) (C.stripe_width costs.now) row matching.now labels.old labels.new stripe }
+{
+    let _limits = costs.rows();
+    if stripe == first {
+        return;
+    }
+    let from = stripe * costs.stripe();
+    if labels.level + turn.least <= turn.depth + costs.floor(turn.row, stripe) {
+        return;
+    }
+    let to = stripe_end(costs, from);
+    scan_columns(costs, matching, labels, row, turn, from, to);
+}
+
+/// The stripe of least floor for the row.
+fn nearest_stripe<C: Costs>(costs: &C, row: u32) -> u32
+    requires row_in { row < C.row_count costs.now }
+    requires some { 0 < C.column_count costs.now }
+    ensures { result * C.stripe_width costs.now < C.column_count costs.now }
+{
+    let mut best = 0;
+    let mut least = costs.floor(row, 0);
+    for stripe in 1..stripe_count(costs) {
+        let floor = costs.floor(row, stripe);
+        if floor < least {
+            best = stripe;
+            least = floor;
+        }
+    }
+    best
+}
+
+/// The turn of the row that was settled last.
+fn turn_of<C: Costs>(costs: &C, matching: &Matching, labels: &Labels, row: u32) -> Turn
+    requires tree { IsTree (C.cost_of costs.now) (C.column_count costs.now) row matching.now labels.now }
+    requires matched { IsMatching (C.cost_of costs.now) (C.column_count costs.now) row matching.now }
+    requires fits { Fits (C.column_count costs.now) row matching.now }
+    requires row_in { row < C.row_count costs.now }
+    ensures { IsTurn (C.cost_of costs.now) row matching.now labels.now result }
+{
+    let _limits = costs.rows();
+    let current = labels.reached[labels.at];
+    let depth = labels.label[current as usize];
+    if current == row {
+        return Turn {
+            row: current,
+            depth,
+            least: 0,
+        };
+    }
+    let column = matching.column_of[current as usize];
+    let least = costs.cost(current, column) + matching.prices[column as usize];
+    Turn {
+        row: current,
+        depth,
+        least,
+    }
+}
+
+/// Looks at all columns for the row that was settled last: those of the stripe of least floor first,
+/// and then those of each stripe that may hold a column within the level.
+pub(crate) fn scan_row<C: Costs>(costs: &C, matching: &Matching, labels: &mut Labels, row: u32)
+    requires tree { IsTree (C.cost_of costs.now) (C.column_count costs.now) row matching.now labels.old }
+    requires matched { IsMatching (C.cost_of costs.now) (C.column_count costs.now) row matching.now }
+    requires fits { Fits (C.column_count costs.now) row matching.now }
+    requires row_in { row < C.row_count costs.now }
+    requires some { 0 < C.column_count costs.now }
+    ensures { Scanned (C.cost_of costs.now) (C.column_count costs.now) row matching.now labels.old labels.new 0 (C.column_count costs.now) }
+{
+    let _limits = costs.rows();
+    let turn = turn_of(costs, matching, labels, row);
+    let first = nearest_stripe(costs, turn.row);
+    let from = first * costs.stripe();
+    let to = stripe_end(costs, from);
+    scan_columns(costs, matching, labels, row, turn, from, to);
+    for stripe in 0..stripe_count(costs) {
+        scan_stripe(costs, matching, labels, row, turn, first, stripe);
+    }
+}
