@@ -1,5 +1,5 @@
 -- A kept problem and its value, and what adding makes of both.
-use Rattle.std.proofs.Common.{◌≡◌, ◌==◌, ℕ, zero, suc, ◌+◌, ◌-◌, ◌<◌, ◌≤◌, ◌^◌, Bool, true, false, ◌||◌, List, [], ◌∷◌, ◌++◌, length, map, take, Option, Some, None, is_some, is_none, IsTrue, IsSome, if◌then◌else◌, get_or, refl, sym, ap, subst, ◌∙◌, arith}
+use Rattle.std.proofs.Common.{◌≡◌, ◌==◌, ℕ, zero, suc, ◌+◌, ◌<◌, ◌≤◌, ◌^◌, Bool, true, false, ◌||◌, List, [], ◌∷◌, ◌++◌, length, map, Option, Some, None, is_some, is_none, if◌then◌else◌, get_or, refl, sym, ap, subst, ◌∙◌, arith}
 use Rattle.std.specs.Prelude.{nat_le, slice_get, unwrap_or, All}
 use Rattle.std.specs.List.{IsDistinct}
 use Rattle.std.specs.Option.{option_map, option_and_then}
@@ -13,16 +13,15 @@ use Rattle.fp_base.specs.declared.ids.Die.TheVariants.{Top, Bottom}
 use Rattle.fp_base.specs.declared.ids.CellId.{CellId}
 use Rattle.fp_base.specs.declared.ids.NetId.{NetId}
 use Rattle.fp_base.specs.declared.ids.Point.{Point}
-use Rattle.fp_tech.specs.declared.fault.BuildFault.{BuildFault}
 use Rattle.fp_tech.specs.declared.fault.BuildFault.TheVariants.{Twice, Unknown, Limit}
-use Rattle.fp_tech.specs.Book.{Lib, Pin, place_of, pin_names, size_of, offset_of, refusal, IsBook}
+use Rattle.fp_tech.specs.Book.{Lib, Pin, place_of, size_of, offset_of, refusal, IsBook}
 use Rattle.fp_tech.specs.BookLaws.{distinct_names, slice_get-front}
 use Rattle.fp_tech.specs.Plan.{Plan, IsPlan}
 use Rattle.fp_netlist.specs.declared.problem.Conn.{Conn}
 use Rattle.fp_netlist.specs.declared.kept.KeptCell.{KeptCell}
 use Rattle.fp_netlist.specs.declared.kept.KeptConn.{KeptConn}
-use Rattle.fp_netlist.specs.Netlist.{Cell, Netlist, no_cells, cell_names, lib_for, lib_at, lib_of, pin_for, pin_place, pin_count, ids_where, conns_of_cell, conns_of_net, with_inst, with_net, with_conn, conn_for, inst_refusal, net_refusal, connect_refusal, IsCell, IsConn, IsSound}
-use Rattle.fp_netlist.specs.Points.{no_lib, no_pin, lib_on, width, height, area, pin_of, pin_on, offset}
+use Rattle.fp_netlist.specs.Netlist.{Cell, Netlist, no_cells, cell_names, lib_for, lib_at, lib_of, pin_for, ids_where, conns_of_cell, conns_of_net, with_inst, with_net, with_conn, conn_for, IsCell, IsConn, IsSound}
+use Rattle.fp_netlist.specs.Points.{no_lib, no_pin, lib_on, width, height, pin_of, pin_on}
 use Rattle.fp_netlist.specs.KeptGroups.{conn_id, members_of}
 use Rattle.fp_netlist.specs.KeptProblem.{cell_keys, net_keys}
 use Rattle.fp_netlist.specs.KeptNetlist.{point_of, cells_of, netlist_of, size_kept, offset_kept, IsSizeOf, IsKeptCell, IsPinOf, IsConnOf, IsOffsetOf, IsKeptConn, IsKept}

@@ -1,5 +1,5 @@
 -- How a problem is kept: with each cell its sizes on both dies, and with each connection its offsets.
-use Rattle.std.specs.Prelude.{◌≡◌, ℕ, ◌<◌, ◌≤◌, ◌^◌, List, [], ◌∷◌, length, map, All, Option, Some, option_map, option_and_then, slice_get, pos}
+use Rattle.std.specs.Prelude.{◌≡◌, ℕ, ◌≤◌, ◌^◌, List, [], ◌∷◌, length, map, All, Option, Some, option_map, option_and_then, slice_get, pos}
 use Rattle.fp_base.specs.declared.ids.Die.{Die}
 use Rattle.fp_base.specs.declared.ids.Die.TheVariants.{Top, Bottom}
 use Rattle.fp_base.specs.declared.ids.CellId.{CellId}

@@ -1,5 +1,5 @@
 -- Laws of a problem's lists and of its library cells.
-use Rattle.std.specs.Prelude.{◌≡◌, ◌==◌, ℕ, ◌+◌, ◌<◌, ◌≤◌, ◌^◌, Bool, true, false, List, [], ◌∷◌, length, All, Contains, Option, Some, None, is_some, option_map, unwrap_or, slice_get, slice_index, if◌then◌else◌, nat_eq}
+use Rattle.std.specs.Prelude.{◌≡◌, ◌==◌, ℕ, ◌+◌, ◌<◌, ◌≤◌, ◌^◌, Bool, true, false, List, [], ◌∷◌, length, All, Contains, Option, Some, None, is_some, option_map, unwrap_or, slice_get, slice_index, if◌then◌else◌}
 use Rattle.std.proofs.Common.{zero, suc, get_or, refl, sym, ap, subst, ◌∙◌, arith}
 use Rattle.std.proofs.lemmas.List.Elements.{All-nil, All-cons, All-weaker}
 use Rattle.std.proofs.lemmas.Option.{same_Some, slice_get_within, slice_get-get_or, get_or_from_slice_get}
@@ -11,7 +11,7 @@ use Rattle.fp_tech.specs.Book.{Pin, Lib, IsLib}
 use Rattle.fp_tech.specs.BookLaws.{cell_within}
 use Rattle.fp_tech.specs.Plan.{spec_of}
 use Rattle.fp_netlist.specs.declared.problem.Conn.{Conn}
-use Rattle.fp_netlist.specs.Netlist.{Cell, Netlist, ids_where, conns_of_cell, conns_of_net, lib_for, lib_at, lib_of, pin_count, IsCell, IsConn, IsSound}
+use Rattle.fp_netlist.specs.Netlist.{Cell, Netlist, ids_where, conns_of_cell, conns_of_net, lib_at, lib_of, pin_count, IsConn, IsSound}
 use Rattle.fp_netlist.specs.Points.{no_lib, no_pin, lib_on, pin_of, pin_on}
 
 -- a number that is counted from i is that of an element which passes

@@ -1,5 +1,5 @@
 -- The sizes of cells and the places of pins, in the technology of a die.
-use Rattle.std.specs.Prelude.{◌≡◌, ℕ, ◌*◌, Option, Some, None, option_map, unwrap_or, slice_get, [], pos, ◌+ℤ◌}
+use Rattle.std.specs.Prelude.{ℕ, ◌*◌, unwrap_or, slice_get, [], pos, ◌+ℤ◌}
 use Rattle.fp_base.specs.declared.ids.Die.{Die}
 use Rattle.fp_base.specs.declared.ids.Die.TheVariants.{Top, Bottom}
 use Rattle.fp_base.specs.declared.ids.Point.{Point}

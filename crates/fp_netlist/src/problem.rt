@@ -21,8 +21,9 @@ pub struct Conn {
     pub bottom_pin: u32,
 }
 
-/// A netlist over two dies: cells, nets and connections, each numbered from 0 in file order. Each connection stands
-/// exactly once in the list of its cell, exactly once in the list of its net, and nowhere else.
+/// A netlist over two dies: cells, nets and connections, each numbered from 0 in file order. Each
+/// connection stands exactly once in the list of its cell, exactly once in the list of its net, and
+/// nowhere else.
 #[derive(Drop)]
 pub struct Problem {
     pub(crate) dies: Dies,
@@ -97,7 +98,8 @@ impl Problem {
 
     /// The cell of that name, or None exactly where no cell has it.
     pub fn cell_named(&self, name: &[u8]) -> Option<CellId>
-        ensures { result ≡ option_map (λ cell. record { 0 = cell }) (place_of name.now (cell_names self.now)) }
+        ensures { result ≡ option_map (λ cell. record { 0 = cell })
+            (place_of name.now (cell_names self.now)) }
     {
         let place = self.cell_names.place(name)?;
         Some(CellId(place as u32))
@@ -155,7 +157,8 @@ impl Problem {
         self.cells[cell.0 as usize].size(die)
     }
 
-    /// The width of a cell on a die, from 1 to 2^30: that of its library cell in the die's technology.
+    /// The width of a cell on a die, from 1 to 2^30: that of its library cell in the die's
+    /// technology.
     pub fn width(&self, cell: CellId, die: Die) -> i64
         requires { cell.0 < length self.now.cells }
         ensures width { result ≡ pos (width self.now cell.0 die) }
@@ -164,7 +167,7 @@ impl Problem {
         i64::from(self.size(cell, die).0)
     }
 
-    /// The height of a cell on a die, from 1 to 2^30.
+    /// The height of a cell on a die, from 1 to 2^30, alike.
     pub fn height(&self, cell: CellId, die: Die) -> i64
         requires { cell.0 < length self.now.cells }
         ensures height { result ≡ pos (height self.now cell.0 die) }
@@ -183,7 +186,8 @@ impl Problem {
         u64::from(width) * u64::from(height)
     }
 
-    /// The offset of a connection's pin on a die from its cell's lower left corner, from 0 to 2^30 on each axis.
+    /// The offset of a connection's pin on a die from its cell's lower left corner, from 0 to 2^30
+    /// on each axis.
     pub fn offset(&self, conn: ConnId, die: Die) -> Point
         requires { conn.0 < length self.now.conns }
         ensures offset { option_map (λ c. offset self.now c die) (slice_get self.now.conns conn.0) ≡ Some result }

@@ -27,8 +27,8 @@ fn add_inverter(
     Ok(inverter)
 }
 
-/// Two technologies with an inverter of two sizes, whose pins stand in different orders at different places. The first
-/// one alone has a buffer, and its inverter alone a pin Z.
+/// Two technologies with an inverter of two sizes, whose pins stand in different orders at
+/// different places. The first one alone has a buffer, and its inverter alone a pin Z.
 fn two_technologies(rt: &impl Abort, book: &mut TechBook) -> Result<(LibId, LibId), BuildFault> {
     let first = book.add_tech(b"TA")?;
     let second = book.add_tech(b"TB")?;

@@ -1,6 +1,6 @@
-use Rattle.std.proofs.Common.{◌≡◌, ◌<◌, ◌∙◌, sym, length, map, Some, arith}
+use Rattle.std.proofs.Common.{sym, arith}
 use Rattle.std.proofs.lemmas.List.{length-map}
-use Rattle.fp_tech.specs.Book.{Pin, names_of, pins_in, place_of}
+use Rattle.fp_tech.specs.Book.{Pin, names_of, pins_in}
 use Rattle.fp_tech.specs.BookLaws.{place_within}
 use Rattle.fp_netlist.proofs.kept.pin_on.Goals as goal
 

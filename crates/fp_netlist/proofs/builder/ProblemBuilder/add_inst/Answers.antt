@@ -1,13 +1,10 @@
-use Rattle.std.proofs.Common.{rules, ◌≡◌, ◌==◌, ◌+◌, ◌<◌, ◌≤◌, ◌^◌, ◌∙◌, ◌++◌, ◌∷◌, ◌||◌, [], true, false, refl, ap, sym, subst, Some, None, IsTrue, IsSome, is_some, is_none, length, map, take, unwrap_or, slice_get, get_or, arith}
+use Rattle.std.proofs.Common.{◌≡◌, ◌^◌, ◌∙◌, ◌++◌, ◌∷◌, ◌||◌, [], false, refl, ap, sym, subst, IsTrue, is_some, is_none, length, arith}
 use Rattle.std.proofs.lemmas.Grind.{common_steps}
 use Rattle.fp_base.specs.declared.ids.LibId.{LibId}
 use Rattle.fp_base.specs.declared.ids.Die.TheVariants.{Top, Bottom}
-use Rattle.fp_tech.specs.Book.{place_of, is_among, refusal}
-use Rattle.fp_netlist.specs.Netlist.{Netlist, cell_names, lib_for, lib_at, lib_of, pin_for, inst_refusal, net_refusal, connect_refusal, with_inst, with_net, with_conn}
-use Rattle.fp_netlist.specs.declared.kept.KeptCell.{KeptCell}
-use Rattle.fp_netlist.specs.declared.kept.KeptConn.{KeptConn}
-use Rattle.fp_netlist.specs.KeptNetlist.{IsKept, IsKeptCell, IsConnOf}
-use Rattle.fp_netlist.proofs.NetlistLemmas.{IsSeen, seen, IsKeptAs, nothing_kept, inst_added, net_added, conn_added, nothing_refused, refused_full, refused_twice, refused_unknown, none_if, name_free, lib_there, lib_known, pin_known}
+use Rattle.fp_tech.specs.Book.{place_of}
+use Rattle.fp_netlist.specs.Netlist.{cell_names, lib_for, lib_at, with_inst}
+use Rattle.fp_netlist.proofs.NetlistLemmas.{seen, IsKeptAs, inst_added, nothing_refused, refused_full, refused_twice, refused_unknown, name_free, lib_known}
 use Rattle.fp_netlist.proofs.builder.ProblemBuilder.add_inst.Goals as goal
 
 pub returns-then-count-ge-CELLS : goal.returns-then-count-ge-CELLS

@@ -1,12 +1,5 @@
-use Rattle.std.proofs.Common.{rules, ◌≡◌, ◌+◌, ◌<◌, ◌≤◌, ◌∙◌, refl, ap, sym, subst, Some, length, map, slice_get, get_or, arith}
-use Rattle.std.specs.Option.{option_map}
-use Rattle.std.proofs.lemmas.Grind.{common_steps}
-use Rattle.std.proofs.lemmas.Option.{get_or_from_slice_get}
-use Rattle.fp_tech.specs.Book.{place_of}
-use Rattle.fp_netlist.specs.declared.problem.Conn.{Conn}
-use Rattle.fp_netlist.specs.Netlist.{cell_names}
-use Rattle.fp_netlist.specs.Points.{offset}
-use Rattle.fp_netlist.proofs.NetlistLemmas.{seen, size_seen, offset_seen, lib_read, conn_at, conn_in_range, keys_in_range, cell_members, net_members}
+use Rattle.std.proofs.Common.{arith}
+use Rattle.fp_netlist.proofs.NetlistLemmas.{seen, size_seen}
 use Rattle.fp_netlist.proofs.problem.Problem.size.Goals as goal
 
 pub index-requires : goal.index-requires
