@@ -11,6 +11,7 @@ mod folder;
 mod ids;
 mod mem_folder;
 mod mem_sink;
+mod side;
 mod sink;
 mod stdout_sink;
 
@@ -19,6 +20,7 @@ pub use folder::{Failed, Folder, NoMemory, ReadFault};
 pub use ids::{CellId, ConnId, Die, LibId, NetId, Point, SlotId, TechId};
 pub use mem_folder::MemFolder;
 pub use mem_sink::MemSink;
+pub use side::{Bottom, SegId, Side, Top};
 pub use sink::Sink;
 pub use stdout_sink::StdoutSink;
 

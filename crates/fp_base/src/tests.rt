@@ -2,7 +2,10 @@
 
 ghost use Rattle.std.specs.Prelude.{◌≡◌, Some};
 
-use crate::{DirFolder, Failed, Folder, MemFolder, MemSink, ReadFault, Sink, StdoutSink};
+use crate::{
+    Bottom, Die, DirFolder, Failed, Folder, MemFolder, MemSink, ReadFault, SegId, Side, Sink,
+    StdoutSink, Top,
+};
 use std::process::Abort;
 use std::test::Fail;
 
@@ -110,5 +113,13 @@ fn standard_output_is_a_sink(rt: HostRuntime) -> Result<(), Fail> {
         &mut sink,
         &[b"a line ".as_slice(), b"in two pieces\n".as_slice()],
     )?;
+    Ok(())
+}
+
+#[test]
+fn segments_of_a_die_are_numbers(rt: HostRuntime) -> Result<(), Fail> {
+    let third: SegId<Bottom> = SegId::new(2);
+    assert_eq!(rt; third.clone()?.index(), third.index());
+    assert!(rt; Top::DIE == Die::Top && Bottom::DIE == Die::Bottom);
     Ok(())
 }

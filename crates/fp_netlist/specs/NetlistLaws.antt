@@ -1,13 +1,14 @@
 -- Laws of a problem's lists and of its library cells.
-use Rattle.std.specs.Prelude.{◌≡◌, ◌==◌, ℕ, ◌+◌, ◌<◌, ◌≤◌, ◌^◌, Bool, true, false, List, [], ◌∷◌, length, All, Contains, Option, Some, None, is_some, option_map, unwrap_or, slice_get, slice_index, if◌then◌else◌}
+use Rattle.std.specs.Prelude.{◌≡◌, ◌==◌, ℕ, ◌+◌, ◌*◌, ◌<◌, ◌≤◌, ◌^◌, Bool, true, false, List, [], ◌∷◌, length, All, Contains, Option, Some, None, is_some, option_map, unwrap_or, slice_get, slice_index, if◌then◌else◌, find, cond, sum_by}
 use Rattle.std.proofs.Common.{zero, suc, get_or, refl, sym, ap, subst, ◌∙◌, arith}
 use Rattle.std.proofs.lemmas.List.Elements.{All-nil, All-cons, All-weaker}
 use Rattle.std.proofs.lemmas.Option.{same_Some, slice_get_within, slice_get-get_or, get_or_from_slice_get}
+use Rattle.std.proofs.lemmas.List.Sums.{sum_by-le}
 use Rattle.std.proofs.lemmas.Bool.{eq-eqb}
 use Rattle.std.proofs.lemmas.Bool.Decides.{nat_tests}
 use Rattle.fp_base.specs.declared.ids.Die.{Die}
 use Rattle.fp_base.specs.declared.ids.Die.TheVariants.{Top, Bottom}
-use Rattle.fp_tech.specs.Book.{Pin, Lib, IsLib}
+use Rattle.fp_tech.specs.Book.{Pin, Lib, Tech, Book, lib_in, libs_of, IsLib, IsTech, IsBook}
 use Rattle.fp_tech.specs.BookLaws.{cell_within}
 use Rattle.fp_tech.specs.Plan.{spec_of}
 use Rattle.fp_netlist.specs.declared.problem.Conn.{Conn}
@@ -141,6 +142,28 @@ lib_there p cell die is below = by (lib_at p (lib_of p cell) die) (some die)
 
 pub lib_within : (p : Netlist) (cell : ℕ) (die : Die) → IsSound p → cell < length p.cells → IsLib (length p.plan.book.names) (lib_on p cell die)
 lib_within p cell die is below = cell_within p.plan.book (spec_of p.plan die).tech.0 (lib_of p cell) (lib_on p cell die) is.book (lib_there p cell die is below)
+
+-- the number of a cell's library cell: there are at most 16 technologies of 4,096
+found_passes : (test : Lib → Bool) (libs : List Lib) (l : Lib) → find test libs ≡ Some l → test l ≡ true
+found_passes test [] l e = absurd (let nothing : None ≡ Some l = e in cc)
+found_passes test (x ∷ xs) l e = by (test x) refl (λ at. found_passes test xs l at) e
+  where
+    by : (b : Bool) → test x ≡ b → (find test xs ≡ Some l → test l ≡ true) → cond b (Some x) (find test xs) ≡ Some l → test l ≡ true
+    by true passes rest at = ap test (sym (same_Some x l at)) ∙ passes
+    by false passes rest at = rest at
+
+few_names : (book : Book) → IsBook book → length book.names ≤ 2 ^ 16
+few_names book is =
+    let few : sum_by (λ (tech : Tech). length tech.libs) book.techs ≤ length book.techs * 4096 = sum_by-le (λ (tech : Tech). length tech.libs) 4096 book.techs
+    (All-weaker (IsTech (length book.names)) (λ (tech : Tech). length tech.libs ≤ 4096) (λ tech is_tech. is_tech.few_libs) book.techs is.techs) in
+    omega (arith, is.few_techs, is.names_used)
+
+pub lib_of_small : (p : Netlist) (cell : ℕ) → IsSound p → cell < length p.cells → lib_of p cell < 2 ^ 16
+unfolding lib_in
+lib_of_small p cell is below =
+    let there : find (λ (lib : Lib). lib.id == lib_of p cell) (libs_of p.plan.book (spec_of p.plan Top).tech.0) ≡ Some (lib_on p cell Top) = lib_there p cell Top is below in
+    let same : (lib_on p cell Top).id ≡ lib_of p cell = same_number (lib_on p cell Top).id (lib_of p cell) (found_passes (λ (lib : Lib). lib.id == lib_of p cell) (libs_of p.plan.book (spec_of p.plan Top).tech.0) (lib_on p cell Top) there) in
+    omega (arith, (lib_within p cell Top is below).named, few_names p.plan.book is.book)
 
 -- a connection's pin is one of its cell's library cell, at an offset up to 2^30
 pub pin_there : (p : Netlist) (conn : Conn) (die : Die) → IsSound p → IsConn p conn → slice_get (lib_on p conn.cell.0 die).pins (pin_of conn die) ≡ Some (pin_on p conn die)

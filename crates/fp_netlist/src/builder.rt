@@ -1,10 +1,11 @@
 //! The building of a problem.
 
 ghost use Rattle.std.specs.Prelude.{◌≡◌, ◌<◌, ◌≤◌, ◌^◌, length, All, IfOk};
-ghost use Rattle.fp_tech.specs.Book.{Adds};
+ghost use Rattle.std.specs.Option.{option_map};
+ghost use Rattle.fp_tech.specs.Book.{place_of, Adds};
 ghost use Rattle.fp_netlist.specs.KeptGroups.{AreGroups};
 ghost use Rattle.fp_netlist.specs.KeptProblem.{cell_keys, net_keys};
-ghost use Rattle.fp_netlist.specs.Netlist.{no_cells, with_inst, with_net, with_conn, inst_refusal, net_refusal, connect_refusal};
+ghost use Rattle.fp_netlist.specs.Netlist.{cell_names, IsSound, no_cells, with_inst, with_net, with_conn, inst_refusal, net_refusal, connect_refusal};
 
 use crate::groups::Groups;
 use crate::kept::{KeptCell, KeptConn};
@@ -57,6 +58,54 @@ impl ProblemBuilder {
             net_names: Names::new(alloc),
             conns: Vec::new(alloc),
         }
+    }
+
+    /// The dies with their technologies.
+    pub fn dies(&self) -> &Dies
+        ensures { result.now ≡ self.now.plan }
+    {
+        &self.dies
+    }
+
+    /// The number of cells so far, at most 2^18.
+    pub fn cells(&self) -> u32
+        ensures count { result ≡ length self.now.cells }
+        ensures sound { IsSound self.now }
+    {
+        self.cells.len() as u32
+    }
+
+    /// The number of nets so far, at most 2^18.
+    pub fn nets(&self) -> u32
+        ensures count { result ≡ length self.now.nets }
+        ensures sound { IsSound self.now }
+    {
+        self.net_names.len() as u32
+    }
+
+    /// The number of connections so far, at most 2^21.
+    pub fn conns(&self) -> u32
+        ensures count { result ≡ length self.now.conns }
+        ensures sound { IsSound self.now }
+    {
+        self.conns.len() as u32
+    }
+
+    /// The cell of that name, or None exactly where no cell has it.
+    pub fn cell_named(&self, name: &[u8]) -> Option<CellId>
+        ensures { result ≡ option_map (λ cell. record { 0 = cell })
+            (place_of name.now (cell_names self.now)) }
+    {
+        let place = self.cell_names.place(name)?;
+        Some(CellId(place as u32))
+    }
+
+    /// The net of that name, or None exactly where no net has it.
+    pub fn net_named(&self, name: &[u8]) -> Option<NetId>
+        ensures { result ≡ option_map (λ net. record { 0 = net }) (place_of name.now self.now.nets) }
+    {
+        let place = self.net_names.place(name)?;
+        Some(NetId(place as u32))
     }
 
     /// Adds a cell of a library cell. `Limit` exactly at 2^18 cells, else `Twice` exactly where a cell has the name,

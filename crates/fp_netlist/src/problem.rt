@@ -113,10 +113,11 @@ impl Problem {
         Some(NetId(place as u32))
     }
 
-    /// The library cell of a cell.
+    /// The library cell of a cell, below 2^16: there are at most 16 technologies of 4,096.
     pub fn lib_of(&self, cell: CellId) -> LibId
         requires { cell.0 < length self.now.cells }
-        ensures { result.0 ≡ lib_of self.now cell.0 }
+        ensures lib { result.0 ≡ lib_of self.now cell.0 }
+        ensures small { result.0 < 2 ^ 16 }
     {
         self.cells[cell.0 as usize].lib
     }

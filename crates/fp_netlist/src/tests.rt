@@ -87,24 +87,51 @@ fn fill(builder: &mut ProblemBuilder, inverter: LibId) -> Result<(), BuildFault>
     }
 }
 
+/// A builder over the two dies, with the two library cells.
+fn small_builder(rt: &impl Abort, alloc: Global) -> Result<(ProblemBuilder, LibId, LibId), Fail> {
+    let mut book = TechBook::new(alloc);
+    let (inverter, buffer) = two_technologies(rt, &mut book)?;
+    let dies = two_dies(rt, alloc, book)?;
+    Ok((ProblemBuilder::new(alloc, dies), inverter, buffer))
+}
+
+/// Two inverters and a net that joins them.
+fn small_problem(rt: &impl Abort, alloc: Global) -> Result<Problem, Fail> {
+    let (mut builder, inverter, _buffer) = small_builder(rt, alloc)?;
+    fill(&mut builder, inverter)?;
+    Ok(builder.finish()?)
+}
+
 #[test]
 fn cells_of_two_technologies(rt: HostRuntime) -> Result<(), Fail> {
-    let mut book = TechBook::new(rt.alloc());
-    let (inverter, buffer) = two_technologies(&rt, &mut book)?;
-    let dies = two_dies(&rt, rt.alloc(), book)?;
-    let mut builder = ProblemBuilder::new(rt.alloc(), dies);
-    fill(&mut builder, inverter)?;
-    for (name, lib, want) in [
-        (b"u3", buffer, BuildFault::Unknown),
-        (b"u2", buffer, BuildFault::Twice),
-    ] {
-        assert_eq!(&rt; builder.add_inst(name, lib).err(), Some(want), "{lib:?}");
-    }
-    assert_eq!(&rt; builder.add_net(b"n1").err(), Some(BuildFault::Twice));
-    let problem = builder.finish()?;
+    let problem = small_problem(&rt, rt.alloc())?;
     names_and_links(&rt, &problem);
     sizes_and_offsets(&rt, &problem);
     Ok(())
+}
+
+#[test]
+fn refusals_of_a_builder(rt: HostRuntime) -> Result<(), Fail> {
+    let (mut builder, inverter, buffer) = small_builder(&rt, rt.alloc())?;
+    fill(&mut builder, inverter)?;
+    assert_eq!(&rt; builder.cell_named(b"u2"), Some(CellId(1)));
+    assert_eq!(&rt; builder.net_named(b"n2"), None);
+    assert!(&rt; builder.cells() == 2 && builder.nets() == 1 && builder.conns() == 3);
+    assert_eq!(&rt;
+        refused(&mut builder, b"u3", buffer),
+        Some(BuildFault::Unknown)
+    );
+    assert_eq!(&rt;
+        refused(&mut builder, b"u2", buffer),
+        Some(BuildFault::Twice)
+    );
+    assert_eq!(&rt; builder.add_net(b"n1").err(), Some(BuildFault::Twice));
+    Ok(())
+}
+
+/// Why a builder refuses a cell.
+fn refused(builder: &mut ProblemBuilder, name: &[u8], lib: LibId) -> Option<BuildFault> {
+    builder.add_inst(name, lib).err()
 }
 
 fn names_and_links(rt: &impl Abort, problem: &Problem) {

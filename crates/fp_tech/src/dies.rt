@@ -4,7 +4,7 @@ ghost use Rattle.std.specs.Prelude.{◌≡◌, ◌+◌, ◌*◌, ◌≤◌, ◌<
 ghost use Rattle.fp_tech.specs.Plan.{Plan, spec_of, rows_lie, rows_of, row_at, segments, IsSetup, IsDieSpec, IsPlan, Makes};
 
 use crate::book::TechBook;
-use fp_base::{Die, TechId};
+use fp_base::{Die, Side, TechId};
 use std::alloc::{AllocError, Global};
 use std::marker::Model;
 use thiserror::Error;
@@ -161,6 +161,14 @@ impl Dies {
         self.terminal
     }
 
+    /// The segments of the die that a type stands for.
+    pub fn segments<S: Side>(&self) -> &[Segment]
+        ensures segments { result.now ≡ segments self.now S.DIE }
+        ensures plan { IsPlan self.now }
+    {
+        self.segments_of(S::DIE)
+    }
+
     /// The segments of a die, numbered upwards from 0: each is one row.
     pub fn segments_of(&self, die: Die) -> &[Segment]
         ensures segments { result.now ≡ segments self.now die }
@@ -215,6 +223,7 @@ fn row_at(spec: DieSpec, row: u32) -> Segment
 mod tests {
     use super::*;
     use crate::grid::Grid;
+    use fp_base::Bottom;
     use std::process::Abort;
     use std::test::Fail;
 
@@ -257,7 +266,8 @@ mod tests {
         let mut book = TechBook::new(rt.alloc());
         let tech = book.add_tech(b"TA")?;
         let dies = dies_at(&rt, rt.alloc(), book, tech, 0)?;
-        let rows = dies.segments_of(Die::Bottom);
+        let rows = dies.segments::<Bottom>();
+        assert_eq!(&rt; dies.segments_of(Die::Bottom), rows);
         assert_eq!(&rt; rows.len(), 4);
         assert_eq!(&rt;
             rows[3],
