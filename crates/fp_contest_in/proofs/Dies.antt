@@ -1,6 +1,6 @@
 -- From what was read to the dies that it describes.
 use Rattle.std.proofs.Common.{◌≡◌, ℕ, Bool, true, false, List, [], ◌++◌, map, Option, Some, None, Result, Ok, Err, refl, sym, ap, subst, ◌∙◌}
-use Rattle.std.specs.Prelude.{IfOk, unwrap_or}
+use Rattle.std.specs.Prelude.{unwrap_or}
 use Rattle.fp_base.specs.declared.ids.Die.{Die}
 use Rattle.fp_base.specs.declared.ids.Die.TheVariants.{Top, Bottom}
 use Rattle.fp_text.specs.Reading.{Left, Read, Fault, fault, GivesFault}
@@ -14,11 +14,9 @@ use Rattle.fp_contest_in.specs.declared.section.Setup.{Setup}
 use Rattle.fp_contest_in.specs.declared.section.RowsFound.{RowsFound}
 use Rattle.fp_contest_in.specs.declared.section.Found.{Found}
 use Rattle.fp_contest_in.specs.Text.{TechText, ProblemText, tech_name_list, with_tech_texts, plan_of}
-use Rattle.fp_contest_in.specs.Grammar.{Reads}
-use Rattle.fp_contest_in.specs.Statements.{die_found, techs_next, sections_next, none_found, setup_of, no_rows, setup_checked, front_next, tail_next, problem_next, problem_of, GivesPlan}
+use Rattle.fp_contest_in.specs.Statements.{die_found, techs_next, sections_next, none_found, setup_of, no_rows, setup_checked, front_next}
 use Rattle.fp_contest_in.specs.Given.{plan_with, GivesSetup, GivesFront}
 use Rattle.fp_contest_in.proofs.Growth.{tech_names-grown}
-use Rattle.fp_contest_in.proofs.Whole.{read_is_in, is_in_read}
 
 abbrev place_in : Option RowsFound → ℕ
 place_in o = (unwrap_or o no_rows).at
@@ -67,33 +65,7 @@ front_done (Ok plan) old book found l mid after empty techs read gives =
     let names = names_read book techs.0 (techs.2 ∙ ap (λ b. with_tech_texts b techs.0) empty) in
     let sections : sections_next (tech_name_list techs.0) 9 none_found mid ≡ Ok (found, after) = ap (λ (ns : List (List ℕ)). sections_next ns 9 none_found mid) (sym names) ∙ read in
     let setup = gives after in (
-      record { techs = techs.0; setup = setup_of found },
+      record { techs = techs.0; setup = setup_of found; insts = []; nets = [] },
       rw (techs.1, sections, setup.0) refl,
       setup.1 ∙ ap (λ (b : Book). plan_with b (setup_of found)) (techs.2 ∙ ap (λ b. with_tech_texts b techs.0) empty),
     )
-
--- ---- the whole file
-
-pub problem_begins : (e : TextFault) (l : Left) → GivesFault e (front_next l) → GivesFault e (problem_next l)
-unfolding problem_next
-problem_begins Memory l fails = tt
-problem_begins (Wrong at kind) l fails = rw fails refl
-
-pub problem_fault : (e : TextFault) (l mid : Left) (plan : Plan) → (text : ProblemText) × (front_next l ≡ Ok (text, mid)) × (plan ≡ plan_of text) → GivesFault e (tail_next mid) → GivesFault e (problem_next l)
-unfolding problem_next
-problem_fault Memory l mid plan front fails = tt
-problem_fault (Wrong at kind) l mid plan front fails = rw (front.1, fails) refl
-
-pub problem_done : (l mid after : Left) (plan : Plan) → (text : ProblemText) × (front_next l ≡ Ok (text, mid)) × (plan ≡ plan_of text) → tail_next mid ≡ Ok after
-    → (text : ProblemText) × (problem_next l ≡ Ok text) × (plan ≡ plan_of text)
-unfolding problem_next
-problem_done l mid after plan front tail = (front.0, rw (front.1, tail) refl, front.2)
-
--- what was read is in the grammar
-pub gives_reads : (bytes : List ℕ) (result : Result Plan TextFault) → GivesPlan result (problem_of bytes) → IfOk result (λ plan. (text : ProblemText) × Reads bytes text × (plan ≡ plan_of text))
-gives_reads bytes (Ok plan) gives = (gives.0, read_is_in bytes gives.0 gives.1, gives.2)
-gives_reads bytes (Err e) gives = tt
-
--- what is in the grammar is read
-pub gives_only : (bytes : List ℕ) (result : Result Plan TextFault) (text : ProblemText) → Reads bytes text → GivesPlan result (problem_of bytes) → GivesPlan result (Ok text)
-gives_only bytes result text reads gives = subst (λ read. GivesPlan result read) (is_in_read bytes text reads) gives

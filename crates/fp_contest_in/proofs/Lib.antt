@@ -5,7 +5,13 @@ pub mod Names
 pub mod Fields
 pub mod FieldsAgain
 pub mod SectionsAgree
+pub mod Paths
+pub mod InstsAgree
+pub mod NetsAgree
 pub mod Whole
+pub mod Problems
+pub mod ProblemLoops
+pub mod Additions
 pub mod Growth
 pub mod Loops
 pub mod InRange

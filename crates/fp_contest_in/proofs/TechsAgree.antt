@@ -15,10 +15,10 @@ use Rattle.fp_contest_in.specs.Growing.{pin_item, lib_item, tech_item}
 use Rattle.fp_contest_in.proofs.Taken.{keyword_ok, keyword_again, name_ok, name_again, number_ok, number_again, count_is, spells_as}
 
 -- an item that was read stands in the words, and one that stands there is read
-abbrev ItemOk : {A : Type 0} → (List A → A → List Word → List Word → Type 0) → (List A → Left → Read A) → Type 0
+abbrev pub ItemOk : {A : Type 0} → (List A → A → List Word → List Word → Type 0) → (List A → Left → Read A) → Type 0
 ItemOk {A} stands item = (before : List A) (l : Left) (x : A) (r : Left) → item before l ≡ Ok (x, r) → stands before x l.words r.words × (r.bytes ≡ l.bytes)
 
-abbrev ItemAgain : {A : Type 0} → (List A → A → List Word → List Word → Type 0) → (List A → Left → Read A) → Type 0
+abbrev pub ItemAgain : {A : Type 0} → (List A → A → List Word → List Word → Type 0) → (List A → Left → Read A) → Type 0
 ItemAgain {A} stands item = (before : List A) (l : Left) (x : A) (rest : List Word) → stands before x l.words rest → item before l ≡ Ok (x, left_of l rest)
 
 -- ---- a name that is new

@@ -1,23 +1,24 @@
 -- The whole file: what is read is in the grammar, and what is in the grammar is read.
 use Rattle.std.proofs.Common.{◌≡◌, ℕ, zero, suc, ◌+◌, ◌^◌, ◌<◌, ◌≤◌, Bool, true, false, cond, List, [], ◌∷◌, ◌++◌, length, map, Option, Some, None, Result, Ok, Err, refl, sym, ap, subst, ◌∙◌, arith}
-use Rattle.std.specs.Prelude.{codes}
 use Rattle.std.proofs.lemmas.List.{map_push}
 use Rattle.fp_text.specs.Words.{Word, words_of}
 use Rattle.fp_base.specs.declared.ids.Die.TheVariants.{Top, Bottom}
-use Rattle.fp_text.specs.Numbers.{Spells}
-use Rattle.fp_text.specs.Reading.{Left, Read, Fault, fault, whole, ◌>>=◌, keyword_next, number_next, end_next}
+use Rattle.fp_text.specs.Reading.{Left, Read, Fault, fault, whole, ◌>>=◌, end_next}
 use Rattle.fp_text.specs.ReadingLaws.{left_of, bind_ok, cond_ok, ok_is, end_ok, end_again, Each}
 use Rattle.fp_text.specs.declared.fault.Kind.TheVariants as kinds
-use Rattle.fp_tech.specs.Plan.{rows_lie}
+use Rattle.fp_tech.specs.Plan.{Plan, rows_lie}
+use Rattle.fp_netlist.specs.Netlist.{no_cells}
 use Rattle.fp_contest_in.specs.declared.section.Section.{Section}
 use Rattle.fp_contest_in.specs.declared.section.Section.TheVariants.{DieSize, MaxUtil, Rows, Tech, TerminalSize, TerminalSpacing}
 use Rattle.fp_contest_in.specs.declared.section.Found.{Found}
 use Rattle.fp_contest_in.specs.declared.section.Setup.{Setup}
-use Rattle.fp_contest_in.specs.Text.{TechText, ProblemText, tech_name_list}
-use Rattle.fp_contest_in.specs.Grammar.{Numbers, ranged, AreTechs, AreSections, IsNothing, IsProblem, IsNewTech, IsNewSection, section_number, is_in, Reads}
-use Rattle.fp_contest_in.specs.Statements.{techs_next, sections_next, none_found, setup_of, rows_of, setup_checked, nothing_next, front_next, tail_next, problem_next, problem_of, has_section, found_count, count_true, bits}
-use Rattle.fp_contest_in.proofs.Taken.{keyword_ok, keyword_again, number_ok, number_again}
+use Rattle.fp_contest_in.specs.Text.{TechText, InstText, NetText, ProblemText, tech_name_list, inst_name_list, plan_of, with_inst_texts, cells_of}
+use Rattle.fp_contest_in.specs.ProblemLaws.{cell_names-with_inst_texts}
+use Rattle.fp_contest_in.specs.Grammar.{AreTechs, AreSections, AreInsts, AreNets, IsProblem, IsNewTech, IsNewInst, IsNewSection, section_number, is_in, Reads}
+use Rattle.fp_contest_in.specs.Statements.{techs_next, sections_next, none_found, setup_of, rows_of, setup_checked, front_next, insts_next, nets_next, cells_next, problem_next, problem_of, has_section, found_count, count_true, bits}
 use Rattle.fp_contest_in.proofs.TechsAgree.{techs_ok, techs_again}
+use Rattle.fp_contest_in.proofs.InstsAgree.{insts_ok, insts_again}
+use Rattle.fp_contest_in.proofs.NetsAgree.{nets_ok, nets_again}
 use Rattle.fp_contest_in.proofs.Bits.{has_bit, number_small, all_set}
 use Rattle.fp_contest_in.proofs.Names.{AreNew}
 use Rattle.fp_contest_in.proofs.FieldsAgain.{Agrees, setup_is}
@@ -45,32 +46,11 @@ rows_again : (found : Found) (l : Left) → rows_lie (setup_of found).frame (set
 unfolding setup_checked
 rows_again found l top bottom = rw (top, bottom) refl
 
--- ---- a count of 0
-
-nothing_ok : (keyword : List ℕ) (l : Left) (n : ℕ) (r : Left) → nothing_next keyword l ≡ Ok (n, r) → IsNothing keyword l.words r.words × (r.bytes ≡ l.bytes)
-unfolding nothing_next
-nothing_ok keyword l n r e =
-    let k = bind_ok (keyword_next keyword l) _ _ e in
-    let named = keyword_ok keyword l k.0.0 k.0.1 k.1 in
-    let count = number_ok 0 0 kinds.Limit k.0.1 n r k.2 in
-    let none : n ≡ 0 = omega (arith, count.0.2.at_most) in (
-      record {
-        after_keyword = k.0.1.words;
-        named = named.0;
-        count = (count.0.0, r.words, count.0.1, subst (λ (m : ℕ). Spells 0 0 count.0.0.text m) none count.0.2, refl);
-      },
-      count.1 ∙ named.1,
-    )
-
-nothing_again : (keyword : List ℕ) (l : Left) (rest : List Word) → IsNothing keyword l.words rest → nothing_next keyword l ≡ Ok (0, left_of l rest)
-unfolding nothing_next
-nothing_again keyword l rest p =
-    let k = keyword_again keyword l p.after_keyword p.named in
-    let c = p.count in
-    let count = number_again 0 0 kinds.Limit (left_of l p.after_keyword) 0 rest (c.0, c.2 ∙ ap (λ (ws : List Word). c.0 ∷ ws) c.4, c.3) (omega arith) in
-    rw (k, count) refl
-
 -- ---- technologies and sections
+
+-- a problem without its instances and nets
+abbrev bare : ProblemText → ProblemText
+bare text = record text { insts = []; nets = [] }
 
 pub record FrontTaken (l : Left) (text : ProblemText) (r : Left) : Type 0 where
   pub after_techs : List Word
@@ -90,7 +70,7 @@ front_ok l text r e =
     let techs = techs_ok l t.0.0 t.0.1 t.1 in
     let sections = sections_ok t.0.0 9 [] none_found t.0.1 s.0.0 s.0.1 (λ section. sym (none_read section)) s.1 in
     let rows = rows_ok s.0.0 s.0.1 c.0.0 c.0.1 c.1 in
-    let read : ◌≡◌ {A = ProblemText × Left} (record { techs = t.0.0; setup = c.0.0 }, c.0.1) (text, r) = cc in
+    let read : ◌≡◌ {A = ProblemText × Left} (record { techs = t.0.0; setup = c.0.0; insts = []; nets = [] }, c.0.1) (text, r) = cc in
     let same : c.0.1.bytes ≡ l.bytes = sym (ap (λ (left : Left). left.bytes) rows.1) ∙ sections.same ∙ techs.1 in
     let each = subst (λ (setup : Setup). Each (IsNewSection t.0.0 setup) [] sections.order t.0.1.words s.0.1.words) rows.0 sections.each in
     let each_then = subst (λ (left : Left). Each (IsNewSection t.0.0 c.0.0) [] sections.order t.0.1.words left.words) rows.1 each in
@@ -101,7 +81,7 @@ front_ok l text r e =
       same = same;
     })
 
-front_again : (l : Left) (text : ProblemText) (after_techs rest : List Word) → AreTechs text.techs l.words after_techs → AreSections text.techs text.setup after_techs rest → front_next l ≡ Ok (text, left_of l rest)
+front_again : (l : Left) (text : ProblemText) (after_techs rest : List Word) → AreTechs text.techs l.words after_techs → AreSections text.techs text.setup after_techs rest → front_next l ≡ Ok (bare text, left_of l rest)
 unfolding front_next count_true
 front_again l text after_techs rest techs sections =
     let t = techs_again l text.techs after_techs techs in
@@ -120,44 +100,57 @@ front_again l text after_techs rest techs sections =
 
 -- ---- the file
 
-tail_ok : (l r : Left) → tail_next l ≡ Ok r → (mid : List Word) × IsNothing (codes "NumInstances") l.words mid × IsNothing (codes "NumNets") mid []
-unfolding tail_next
-tail_ok l r e =
-    let i = bind_ok (nothing_next (codes "NumInstances") l) _ _ e in
-    let n = bind_ok (nothing_next (codes "NumNets") i.0.1) _ _ i.2 in
-    let instances = nothing_ok (codes "NumInstances") l i.0.0 i.0.1 i.1 in
-    let nets = nothing_ok (codes "NumNets") i.0.1 n.0.0 n.0.1 n.1 in
-    let no_more = end_ok n.0.1 r n.2 in
-    (i.0.1.words, instances.0, subst (λ (ws : List Word). IsNothing (codes "NumNets") i.0.1.words ws) no_more.0 nets.0)
+-- instances that stand one after the other have distinct names
+insts_new : (plan : Plan) (before insts : List InstText) (words rest : List Word) → Each (IsNewInst plan) before insts words rest → AreNew (inst_name_list before) (inst_name_list insts)
+insts_new plan before [] words rest each = tt
+insts_new plan before (inst ∷ insts) words rest each =
+    (each.1.1, subst (λ (names : List (List ℕ)). AreNew names (inst_name_list insts)) (map_push (λ (i : InstText). i.name) before inst) (insts_new plan (before ++ inst ∷ []) insts each.0 rest each.2))
 
-tail_again : (l : Left) (mid : List Word) → IsNothing (codes "NumInstances") l.words mid → IsNothing (codes "NumNets") mid [] → tail_next l ≡ Ok (left_of l [])
-unfolding tail_next
-tail_again l mid instances nets =
-    let i = nothing_again (codes "NumInstances") l mid instances in
-    let n = nothing_again (codes "NumNets") (left_of l mid) [] nets in
-    rw (i, n) (end_again (left_of l []) refl)
+cells_ok : (text : ProblemText) (l : Left) (insts : List InstText) (nets : List NetText) → cells_next (plan_of text) l ≡ Ok (insts, nets)
+    → (mid : List Word) × AreInsts (plan_of text) insts l.words mid × AreNets (with_inst_texts (no_cells (plan_of text)) insts) nets mid []
+unfolding cells_next
+cells_ok text l insts nets e =
+    let i = bind_ok (insts_next (plan_of text) l) _ _ e in
+    let p = with_inst_texts (no_cells (plan_of text)) i.0.0 in
+    let n = bind_ok (nets_next p i.0.1) _ _ i.2 in
+    let t = bind_ok (end_next n.0.1) _ _ n.2 in
+    let are_insts = insts_ok (plan_of text) l i.0.0 i.0.1 i.1 in
+    let are_nets = nets_ok p i.0.1 n.0.0 n.0.1 n.1 in
+    let no_more = end_ok n.0.1 t.0 t.1 in
+    let same = ok_is {A = List InstText × List NetText} (i.0.0, n.0.0) (insts, nets) t.2 in
+    subst (λ (c : List InstText × List NetText). (mid : List Word) × AreInsts (plan_of text) c.0 l.words mid × AreNets (with_inst_texts (no_cells (plan_of text)) c.0) c.1 mid []) same
+    (i.0.1.words, are_insts.0, subst (λ (ws : List Word). AreNets p n.0.0 i.0.1.words ws) no_more.0 are_nets.0)
+
+cells_again : (text : ProblemText) (l : Left) (mid : List Word) → AreInsts (plan_of text) text.insts l.words mid → AreNets (cells_of text) text.nets mid [] → cells_next (plan_of text) l ≡ Ok (text.insts, text.nets)
+unfolding cells_next
+cells_again text l mid are_insts are_nets =
+    let insts = insts_again (plan_of text) l text.insts mid are_insts in
+    let apart = subst (AreNew []) (sym (cell_names-with_inst_texts (no_cells (plan_of text)) text.insts))
+    (insts_new (plan_of text) [] text.insts are_insts.after_count mid are_insts.items) in
+    let nets = nets_again (cells_of text) apart (left_of l mid) text.nets [] are_nets in
+    rw (insts, nets, end_again (left_of l []) refl) refl
 
 pub read_is_in : (bytes : List ℕ) (text : ProblemText) → problem_of bytes ≡ Ok text → Reads bytes text
 unfolding problem_next
 read_is_in bytes text e =
     let f = bind_ok (front_next (whole bytes)) _ _ e in
-    let t = bind_ok (tail_next f.0.1) _ _ f.2 in
+    let c = bind_ok (cells_next (plan_of f.0.0) f.0.1) _ _ f.2 in
     let front = front_ok (whole bytes) f.0.0 f.0.1 f.1 in
-    let tail = tail_ok f.0.1 t.0 t.1 in
-    let same = ok_is f.0.0 text t.2 in
+    let cells = cells_ok f.0.0 f.0.1 c.0.0 c.0.1 c.1 in
+    let same = ok_is (record f.0.0 { insts = c.0.0; nets = c.0.1 }) text c.2 in
     subst (λ (t : ProblemText). IsProblem t (words_of bytes)) same (record {
       after_techs = front.after_techs;
       after_sections = f.0.1.words;
-      after_instances = tail.0;
+      after_instances = cells.0;
       techs = front.techs;
       sections = front.sections;
-      instances = tail.1;
-      nets = tail.2;
+      instances = cells.1;
+      nets = cells.2;
     })
 
 pub is_in_read : (bytes : List ℕ) (text : ProblemText) → Reads bytes text → problem_of bytes ≡ Ok text
 unfolding problem_next
 is_in_read bytes text p =
     let front = front_again (whole bytes) text p.after_techs p.after_sections p.techs p.sections in
-    let tail = tail_again (left_of (whole bytes) p.after_sections) p.after_instances p.instances p.nets in
-    rw (front, tail) refl
+    let cells = cells_again text (left_of (whole bytes) p.after_sections) p.after_instances p.instances p.nets in
+    rw (front, cells) refl

@@ -1,12 +1,15 @@
 -- What the parts of the reader answer.
-use Rattle.std.specs.Prelude.{◌≡◌, Result, Ok, Err}
-use Rattle.fp_text.specs.Reading.{Left, Read, GivesFault}
+use Rattle.std.specs.Prelude.{◌≡◌, ℕ, List, true, is_some, Result, Ok, Err}
+use Rattle.fp_base.specs.declared.ids.Die.TheVariants.{Top, Bottom}
+use Rattle.fp_base.specs.declared.ids.LibId.{LibId}
+use Rattle.fp_text.specs.Reading.{Left, Read, Fault, GivesFault}
 use Rattle.fp_text.specs.declared.fault.TextFault.{TextFault}
-use Rattle.fp_tech.specs.Book.{Book}
+use Rattle.fp_tech.specs.Book.{Book, id_for}
 use Rattle.fp_tech.specs.Plan.{Plan}
+use Rattle.fp_netlist.specs.Netlist.{Netlist, no_cells, lib_for}
 use Rattle.fp_contest_in.specs.declared.section.Found.{Found}
 use Rattle.fp_contest_in.specs.declared.section.Setup.{Setup}
-use Rattle.fp_contest_in.specs.Text.{ProblemText, plan_of}
+use Rattle.fp_contest_in.specs.Text.{InstText, NetText, ProblemText, plan_of, with_inst_texts, with_net_texts}
 use Rattle.fp_contest_in.specs.Statements.{setup_of}
 
 -- the dies of a book and a setup
@@ -22,3 +25,19 @@ GivesSetup book found (Err e) left read = GivesFault e read
 abbrev pub GivesFront : Result Plan TextFault → Left → Read ProblemText → Type 0
 GivesFront (Ok plan) left read = (text : ProblemText) × (read ≡ Ok (text, left)) × (plan ≡ plan_of text)
 GivesFront (Err e) left read = GivesFault e read
+
+-- a name's library cell, which the technologies of both dies have
+pub record IsLibOf (plan : Plan) (name : List ℕ) (lib : ℕ) : Type 0 where
+  pub number : id_for plan.book name ≡ lib
+  pub top : is_some (lib_for plan lib Top) ≡ true
+  pub bottom : is_some (lib_for plan lib Bottom) ≡ true
+
+-- the library cell of the name that was read, or the fault
+abbrev pub GivesLib : Plan → Result LibId TextFault → Left → Read (List ℕ) → Type 0
+GivesLib plan (Ok lib) left read = (name : List ℕ) × (read ≡ Ok (name, left)) × IsLibOf plan name lib.0
+GivesLib plan (Err e) left read = GivesFault e read
+
+-- what the instances and the nets made of a problem without any, or the fault
+abbrev pub GivesCells : {U : Type 0} → Plan → Result U TextFault → Netlist → Result (List InstText × List NetText) Fault → Type 0
+GivesCells plan (Ok done) p read = (insts : List InstText) × (nets : List NetText) × (read ≡ Ok (insts, nets)) × (p ≡ with_net_texts (with_inst_texts (no_cells plan) insts) nets)
+GivesCells plan (Err e) p read = GivesFault e read

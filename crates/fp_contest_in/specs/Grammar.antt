@@ -1,6 +1,6 @@
 -- The grammar of the input file, as a relation between a problem and the tokens that spell it: each statement
 -- takes the first words, and the rest follow.
-use Rattle.std.specs.Prelude.{◌≡◌, ℕ, ◌+◌, ◌^◌, Bool, true, false, ◌==◌, if◌then◌else◌, List, [], ◌∷◌, ◌++◌, length, Some, slice_get, codes}
+use Rattle.std.specs.Prelude.{◌≡◌, ◌≢◌, ℕ, ◌+◌, ◌-◌, ◌^◌, Bool, true, false, ◌==◌, ◌&&◌, if◌then◌else◌, List, [], ◌∷◌, ◌++◌, length, All, Some, is_some, slice_get, codes}
 use Rattle.fp_base.specs.declared.ids.Die.{Die}
 use Rattle.fp_base.specs.declared.ids.Die.TheVariants.{Top, Bottom}
 use Rattle.fp_text.specs.Words.{Word, words_of}
@@ -8,12 +8,13 @@ use Rattle.fp_text.specs.Numbers.{is_name, Spells}
 use Rattle.fp_text.specs.ReadingLaws.{Each}
 use Rattle.fp_tech.specs.declared.dies.Frame.{Frame}
 use Rattle.fp_tech.specs.declared.dies.DieSpec.{DieSpec}
-use Rattle.fp_tech.specs.Book.{Pin, is_among}
-use Rattle.fp_tech.specs.Plan.{rows_lie}
+use Rattle.fp_tech.specs.Book.{Pin, is_among, has_name}
+use Rattle.fp_tech.specs.Plan.{Plan, rows_lie}
+use Rattle.fp_netlist.specs.Netlist.{Cell, Netlist, pin_place}
 use Rattle.fp_contest_in.specs.declared.section.Section.{Section}
 use Rattle.fp_contest_in.specs.declared.section.Section.TheVariants.{DieSize, MaxUtil, Rows, Tech, TerminalSize, TerminalSpacing}
 use Rattle.fp_contest_in.specs.declared.section.Setup.{Setup}
-use Rattle.fp_contest_in.specs.Text.{LibText, TechText, ProblemText, pin_name_list, lib_name_list, tech_name_list}
+use Rattle.fp_contest_in.specs.Text.{LibText, TechText, InstText, ConnText, NetText, ProblemText, pin_name_list, lib_name_list, tech_name_list, inst_name_list, net_name_list, conn_count, plan_of, cells_of}
 
 -- the greatest number that is read
 abbrev pub most_number : ℕ
@@ -157,11 +158,81 @@ pub record AreSections (techs : List TechText) (setup : Setup) (words rest : Lis
   pub top_lies : rows_lie setup.frame setup.top ≡ true
   pub bottom_lies : rows_lie setup.frame setup.bottom ≡ true
 
--- `NumInstances 0` and `NumNets 0`
-pub record IsNothing (keyword : List ℕ) (words rest : List Word) : Type 0 where
+-- the technologies of both dies have a library cell of that name
+abbrev pub has_lib : Plan → List ℕ → Bool
+has_lib plan name = has_name plan.book plan.top.tech.0 name && has_name plan.book plan.bottom.tech.0 name
+
+-- `Inst name library-cell`; the library cell is in the technologies of both dies
+pub record IsInst (plan : Plan) (inst : InstText) (words rest : List Word) : Type 0 where
   pub after_keyword : List Word
-  pub named : Keyword keyword words after_keyword
-  pub count : Numbers (ranged 0 0 0 ∷ []) after_keyword rest
+  pub after_name : List Word
+  pub keyword : Keyword (codes "Inst") words after_keyword
+  pub name : Named inst.name after_keyword after_name
+  pub lib : Named inst.lib after_name rest
+  pub known : has_lib plan inst.lib ≡ true
+
+abbrev pub IsNewInst : Plan → List InstText → InstText → List Word → List Word → Type 0
+IsNewInst plan before inst words rest = IsInst plan inst words rest × IsNew inst.name (inst_name_list before)
+
+-- `NumInstances n`, then n instances with distinct names
+pub record AreInsts (plan : Plan) (insts : List InstText) (words rest : List Word) : Type 0 where
+  pub after_keyword : List Word
+  pub after_count : List Word
+  pub keyword : Keyword (codes "NumInstances") words after_keyword
+  pub count : Numbers (ranged 0 (2 ^ 18) (length insts) ∷ []) after_keyword after_count
+  pub items : Each (IsNewInst plan) [] insts after_count rest
+
+-- the byte `/`
+abbrev pub slash : ℕ
+slash = 47
+
+-- a token that joins two names by its last `/`
+pub record IsPath (inst pin token : List ℕ) : Type 0 where
+  pub joined : token ≡ inst ++ slash ∷ pin
+  pub last : All (λ byte. byte ≢ slash) pin
+  pub inst_name : is_name inst ≡ true
+  pub pin_name : is_name pin ≡ true
+
+-- a cell's library cell has that pin in the technologies of both dies
+abbrev pub has_pin : Netlist → ℕ → List ℕ → Bool
+has_pin p cell pin = is_some (pin_place p cell pin Top) && is_some (pin_place p cell pin Bottom)
+
+-- `Pin instance/pin`: the instance is the cell of that name, and its library cell has the pin in the technologies of both dies
+pub record IsNetPin (p : Netlist) (conn : ConnText) (words rest : List Word) : Type 0 where
+  pub after_keyword : List Word
+  pub word : Word
+  pub cell : Cell
+  pub keyword : Keyword (codes "Pin") words after_keyword
+  pub first : after_keyword ≡ word ∷ rest
+  pub path : IsPath cell.name conn.pin word.text
+  pub there : slice_get p.cells conn.inst ≡ Some cell
+  pub known : has_pin p conn.inst conn.pin ≡ true
+
+-- `Net name p`, then p pins of cells, any of them several times; there is room for so many
+pub record IsNet (p : Netlist) (room : ℕ) (net : NetText) (words rest : List Word) : Type 0 where
+  pub after_keyword : List Word
+  pub after_name : List Word
+  pub after_count : List Word
+  pub keyword : Keyword (codes "Net") words after_keyword
+  pub name : Named net.name after_keyword after_name
+  pub count : Numbers (ranged 0 room (length net.pins) ∷ []) after_name after_count
+  pub items : Each (λ before. IsNetPin p) [] net.pins after_count rest
+
+-- the most connections of all nets
+abbrev pub most_conns : ℕ
+most_conns = 2 ^ 21
+
+-- a net whose name is none of those before it, and whose connections are with theirs at most 2^21
+abbrev pub IsNewNet : Netlist → List NetText → NetText → List Word → List Word → Type 0
+IsNewNet p before net words rest = IsNet p (most_conns - conn_count before) net words rest × IsNew net.name (net_name_list before)
+
+-- `NumNets n`, then n nets with distinct names
+pub record AreNets (p : Netlist) (nets : List NetText) (words rest : List Word) : Type 0 where
+  pub after_keyword : List Word
+  pub after_count : List Word
+  pub keyword : Keyword (codes "NumNets") words after_keyword
+  pub count : Numbers (ranged 0 (2 ^ 18) (length nets) ∷ []) after_keyword after_count
+  pub items : Each (IsNewNet p) [] nets after_count rest
 
 -- the words of a whole file
 pub record IsProblem (text : ProblemText) (words : List Word) : Type 0 where
@@ -170,8 +241,8 @@ pub record IsProblem (text : ProblemText) (words : List Word) : Type 0 where
   pub after_instances : List Word
   pub techs : AreTechs text.techs words after_techs
   pub sections : AreSections text.techs text.setup after_techs after_sections
-  pub instances : IsNothing (codes "NumInstances") after_sections after_instances
-  pub nets : IsNothing (codes "NumNets") after_instances []
+  pub instances : AreInsts (plan_of text) text.insts after_sections after_instances
+  pub nets : AreNets (cells_of text) text.nets after_instances []
 
 -- the bytes are an input file that says this problem
 abbrev pub Reads : List ℕ → ProblemText → Type 0

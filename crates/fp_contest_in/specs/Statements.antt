@@ -1,10 +1,11 @@
 -- The input file read from left to right, statement by statement, up to its first fault.
-use Rattle.std.specs.Prelude.{◌≡◌, ℕ, zero, suc, ◌+◌, ◌^◌, Bool, true, false, if◌then◌else◌, List, [], ◌∷◌, Option, Some, None, is_some, unwrap_or, Result, Ok, Err, codes}
+use Rattle.std.specs.Prelude.{◌≡◌, ℕ, zero, suc, ◌+◌, ◌-◌, ◌^◌, Bool, true, false, ◌&&◌, ◌==◌, if◌then◌else◌, List, [], ◌∷◌, Option, Some, None, is_some, unwrap_or, Result, Ok, Err, codes}
 use Rattle.std.specs.Str.{bytes_eq}
 use Rattle.fp_base.specs.declared.ids.Die.{Die}
 use Rattle.fp_base.specs.declared.ids.Die.TheVariants.{Top, Bottom}
 use Rattle.fp_base.specs.declared.ids.TechId.{TechId}
 use Rattle.fp_text.specs.Words.{Word}
+use Rattle.fp_text.specs.Numbers.{is_name}
 use Rattle.fp_text.specs.Reading.{Left, Read, Fault, fault, whole, ◌>>=◌, word_next, keyword_next, name_next, number_next, end_next, many_next, GivesFault}
 use Rattle.fp_text.specs.declared.fault.Kind.{Kind}
 use Rattle.fp_text.specs.declared.fault.Kind.TheVariants as kinds
@@ -20,8 +21,9 @@ use Rattle.fp_contest_in.specs.declared.section.RowsFound.{RowsFound}
 use Rattle.fp_contest_in.specs.declared.section.DieFound.{DieFound}
 use Rattle.fp_contest_in.specs.declared.section.Found.{Found}
 use Rattle.fp_contest_in.specs.declared.section.Setup.{Setup}
-use Rattle.fp_contest_in.specs.Text.{LibText, TechText, ProblemText, pin_name_list, lib_name_list, tech_name_list, plan_of}
-use Rattle.fp_contest_in.specs.Grammar.{keyword_of, most_number}
+use Rattle.fp_netlist.specs.Netlist.{Netlist, no_cells, cell_names}
+use Rattle.fp_contest_in.specs.Text.{LibText, TechText, InstText, ConnText, NetText, ProblemText, pin_name_list, lib_name_list, tech_name_list, inst_name_list, net_name_list, conn_count, plan_of, with_inst_texts, netlist_of}
+use Rattle.fp_contest_in.specs.Grammar.{keyword_of, most_number, has_lib, slash, has_pin, most_conns}
 
 -- a name that is not among those before it
 unfoldable pub new_name_next : List (List ℕ) → Left → Read (List ℕ)
@@ -223,39 +225,108 @@ setup_checked found l =
     then (if rows_lie (setup_of found).frame (setup_of found).bottom then Ok (setup_of found, l) else fault (rows_of found.bottom).at kinds.Rows)
     else fault (rows_of found.top).at kinds.Rows
 
--- a keyword with a count that has to be 0
-unfoldable pub nothing_next : List ℕ → Left → Read ℕ
-nothing_next keyword l = do
-  word ← keyword_next keyword l
-  number_next 0 0 kinds.Limit word.1
-
--- the technologies and the sections
+-- the technologies and the sections: a problem without instances and nets
 unfoldable pub front_next : Left → Read ProblemText
 front_next l = do
   techs ← techs_next l
   found ← sections_next (tech_name_list techs.0) 9 none_found techs.1
   setup ← setup_checked found.0 found.1
-  Ok (record { techs = techs.0; setup = setup.0 }, setup.1)
+  Ok (record { techs = techs.0; setup = setup.0; insts = []; nets = [] }, setup.1)
 
--- no instances, no nets, and the end
-unfoldable pub tail_next : Left → Result Left Fault
-tail_next l = do
-  instances ← nothing_next (codes "NumInstances") l
-  nets ← nothing_next (codes "NumNets") instances.1
-  end_next nets.1
+-- the name of a library cell that the technologies of both dies have
+unfoldable pub lib_name_next : Plan → Left → Read (List ℕ)
+lib_name_next plan l = do
+  name ← name_next l
+  if has_lib plan name.0.text then Ok (name.0.text, name.1) else fault name.0.at kinds.Unknown
+
+-- `Inst name library-cell`, after instances of these names
+unfoldable pub inst_next : Plan → List (List ℕ) → Left → Read InstText
+inst_next plan before l = do
+  keyword ← keyword_next (codes "Inst") l
+  name ← new_name_next before keyword.1
+  lib ← lib_name_next plan name.1
+  Ok (record { name = name.0; lib = lib.0 }, lib.1)
+
+-- `NumInstances n` and n instances
+unfoldable pub insts_next : Plan → Left → Read (List InstText)
+insts_next plan l = do
+  keyword ← keyword_next (codes "NumInstances") l
+  count ← number_next 0 (2 ^ 18) kinds.Limit keyword.1
+  many_next (λ insts. inst_next plan (inst_name_list insts)) count.0 [] count.1
+
+-- what stands before the last `/` of a token and behind it, one byte further to the front
+abbrev pub cut_with : ℕ → List ℕ → Option (List ℕ × List ℕ) → Option (List ℕ × List ℕ)
+cut_with byte bytes None = if byte == slash then Some ([], bytes) else None
+cut_with byte bytes (Some (front, behind)) = Some (byte ∷ front, behind)
+
+-- what stands before the last `/` of a token and behind it, if there is one
+unfoldable pub cut_at_slash : List ℕ → Option (List ℕ × List ℕ)
+cut_at_slash [] = None
+cut_at_slash (byte ∷ bytes) = cut_with byte bytes (cut_at_slash bytes)
+
+-- both parts, where they are names
+abbrev pub named_parts : Option (List ℕ × List ℕ) → Option (List ℕ × List ℕ)
+named_parts None = None
+named_parts (Some path) = if is_name path.0 && is_name path.1 then Some path else None
+
+-- the names of an instance and of its pin in a token
+unfoldable pub path_of : List ℕ → Option (List ℕ × List ℕ)
+path_of token = named_parts (cut_at_slash token)
+
+abbrev pub path_at : Option (List ℕ × List ℕ) → ℕ → Result (List ℕ × List ℕ) Fault
+path_at None at = fault at kinds.Name
+path_at (Some path) at = Ok path
+
+-- a cell and its pin, where both are known
+abbrev pub known_pin : Netlist → Option ℕ → List ℕ → ℕ → Result ConnText Fault
+known_pin p None pin at = fault at kinds.Unknown
+known_pin p (Some cell) pin at = if has_pin p cell pin then Ok (record { inst = cell; pin = pin }) else fault at kinds.Unknown
+
+-- `Pin instance/pin`, of these cells
+unfoldable pub net_pin_next : Netlist → Left → Read ConnText
+net_pin_next p l = do
+  keyword ← keyword_next (codes "Pin") l
+  word ← word_next keyword.1
+  path ← path_at (path_of word.0.text) word.0.at
+  conn ← known_pin p (place_of path.0 (cell_names p)) path.1 word.0.at
+  Ok (conn, word.1)
+
+-- `Net name p` and p pins of these cells, after nets of these names with so many connections
+unfoldable pub net_next : Netlist → List (List ℕ) → ℕ → Left → Read NetText
+net_next p before conns l = do
+  keyword ← keyword_next (codes "Net") l
+  name ← new_name_next before keyword.1
+  count ← number_next 0 (most_conns - conns) kinds.Limit name.1
+  pins ← many_next (λ pins. net_pin_next p) count.0 [] count.1
+  Ok (record { name = name.0; pins = pins.0 }, pins.1)
+
+-- `NumNets n` and n nets of these cells
+unfoldable pub nets_next : Netlist → Left → Read (List NetText)
+nets_next p l = do
+  keyword ← keyword_next (codes "NumNets") l
+  count ← number_next 0 (2 ^ 18) kinds.Limit keyword.1
+  many_next (λ nets. net_next p (net_name_list nets) (conn_count nets)) count.0 [] count.1
+
+-- the instances, the nets and the end
+unfoldable pub cells_next : Plan → Left → Result (List InstText × List NetText) Fault
+cells_next plan l = do
+  insts ← insts_next plan l
+  nets ← nets_next (with_inst_texts (no_cells plan) insts.0) insts.1
+  end ← end_next nets.1
+  Ok (insts.0, nets.0)
 
 -- the whole file from its first token on
 unfoldable pub problem_next : Left → Result ProblemText Fault
 problem_next l = do
   front ← front_next l
-  end ← tail_next front.1
-  Ok front.0
+  cells ← cells_next (plan_of front.0) front.1
+  Ok (record front.0 { insts = cells.0; nets = cells.1 })
 
 -- the problem of a whole file, or its first fault
 abbrev pub problem_of : List ℕ → Result ProblemText Fault
 problem_of bytes = problem_next (whole bytes)
 
--- what a reader of the file returned: the dies of the problem that is read, or the first fault, or want of memory
-abbrev pub GivesPlan : Result Plan TextFault → Result ProblemText Fault → Type 0
-GivesPlan (Ok plan) read = (text : ProblemText) × (read ≡ Ok text) × (plan ≡ plan_of text)
-GivesPlan (Err e) read = GivesFault e read
+-- what a reader of the file returned: the netlist of the problem that is read, or the first fault, or want of memory
+abbrev pub GivesProblem : Result Netlist TextFault → Result ProblemText Fault → Type 0
+GivesProblem (Ok p) read = (text : ProblemText) × (read ≡ Ok text) × (p ≡ netlist_of text)
+GivesProblem (Err e) read = GivesFault e read

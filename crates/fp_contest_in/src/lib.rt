@@ -1,6 +1,8 @@
 //! The reader of contest input files.
 #![tactic(auto)]
 
+mod insts;
+mod nets;
 mod reading;
 mod section;
 mod sections;

@@ -1,16 +1,20 @@
 //! Reading a whole input file.
 
 ghost use Rattle.std.specs.Prelude.{◌≡◌, Ok, IfOk, length};
-ghost use Rattle.fp_text.specs.Reading.{Left, Gives, Ends};
-ghost use Rattle.fp_contest_in.specs.Text.{ProblemText, plan_of};
+ghost use Rattle.fp_text.specs.Reading.{Left};
+ghost use Rattle.fp_netlist.specs.Netlist.{no_cells};
+ghost use Rattle.fp_contest_in.specs.Text.{ProblemText, netlist_of};
 ghost use Rattle.fp_contest_in.specs.Grammar.{Reads};
-ghost use Rattle.fp_contest_in.specs.Statements.{nothing_next, front_next, tail_next, problem_next, setup_checked, problem_of, GivesPlan};
+ghost use Rattle.fp_contest_in.specs.Statements.{front_next, cells_next, problem_next, setup_checked, problem_of, GivesProblem};
 ghost use Rattle.fp_contest_in.specs.Ranges.{AreInRange, IsComplete};
-ghost use Rattle.fp_contest_in.specs.Given.{GivesSetup, GivesFront};
+ghost use Rattle.fp_contest_in.specs.Given.{GivesSetup, GivesFront, GivesCells};
 
+use crate::insts::insts;
+use crate::nets::nets;
 use crate::section::Found;
-use crate::sections::{number, sections};
+use crate::sections::sections;
 use crate::techs::techs;
+use fp_netlist::{Problem, ProblemBuilder};
 use fp_tech::{Dies, DiesFault, TechBook};
 use fp_text::{Kind, TextFault, Tokens};
 use std::alloc::Global;
@@ -50,44 +54,39 @@ fn front(alloc: Global, tokens: &mut Tokens<'_>) -> Result<Dies, TextFault>
     dies_of(alloc, book, found)
 }
 
-/// A keyword with a count that has to be 0, else `Limit`.
-#[tactic(auto, unfolding(crate::specs::Statements::nothing_next))]
-fn nothing(tokens: &mut Tokens<'_>, keyword: &[u8]) -> Result<u32, TextFault>
-    ensures { Gives (λ n. n) result tokens.new (nothing_next keyword.now tokens.old) }
+/// Reads the instances, the nets and the end into a problem that has none.
+fn cells(builder: &mut ProblemBuilder, tokens: &mut Tokens<'_>) -> Result<(), TextFault>
+    requires { builder.old ≡ no_cells builder.old.plan }
+    ensures { GivesCells builder.old.plan result builder.new (cells_next builder.old.plan tokens.old) }
 {
-    tokens.keyword(keyword)?;
-    number(tokens, 0, 0, Kind::Limit)
-}
-
-/// No instances, no nets, and the end.
-#[tactic(auto, unfolding(crate::specs::Statements::tail_next))]
-fn tail(tokens: &mut Tokens<'_>) -> Result<(), TextFault>
-    ensures { Ends result tokens.new (tail_next tokens.old) }
-{
-    nothing(tokens, b"NumInstances")?;
-    nothing(tokens, b"NumNets")?;
+    insts(builder, tokens)?;
+    nets(builder, tokens)?;
     tokens.end()
 }
 
 /// The whole file, up to its first fault.
-fn problem(alloc: Global, tokens: &mut Tokens<'_>) -> Result<Dies, TextFault>
-    ensures { GivesPlan result (problem_next tokens.old) }
+fn problem(alloc: Global, tokens: &mut Tokens<'_>) -> Result<Problem, TextFault>
+    ensures { GivesProblem result (problem_next tokens.old) }
 {
     let dies = front(alloc, tokens)?;
-    tail(tokens)?;
-    Ok(dies)
+    let mut builder = ProblemBuilder::new(alloc, dies);
+    cells(&mut builder, tokens)?;
+    match builder.finish() {
+        Ok(problem) => Ok(problem),
+        Err(_) => Err(TextFault::Memory),
+    }
 }
 
-/// The problem of an input file, as its dies: an input without instances and nets.
+/// The problem of an input file.
 ///
 /// `Wrong` is the first fault from left to right, by the order in which the kinds are tried at each token.
-pub fn read_problem(alloc: Global, bytes: &[u8]) -> Result<Dies, TextFault>
+pub fn read_problem(alloc: Global, bytes: &[u8]) -> Result<Problem, TextFault>
     // What is read is in the grammar, with its problem.
-    ensures reads { IfOk result (λ dies. (text : ProblemText) × Reads bytes.now text × (dies ≡ plan_of text)) }
+    ensures reads { IfOk result (λ p. (text : ProblemText) × Reads bytes.now text × (p ≡ netlist_of text)) }
     // What is in the grammar is read, unless memory runs out.
-    ensures only { (text : ProblemText) → Reads bytes.now text → GivesPlan result (Ok text) }
+    ensures only { (text : ProblemText) → Reads bytes.now text → GivesProblem result (Ok text) }
     // Which fault it is.
-    ensures gives { GivesPlan result (problem_of bytes.now) }
+    ensures gives { GivesProblem result (problem_of bytes.now) }
 {
     let mut tokens = Tokens::new(bytes);
     problem(alloc, &mut tokens)

@@ -216,7 +216,7 @@ impl<'a> Tokens<'a> {
 }
 
 /// Whether the token is a name: 1 to 255 bytes from 33 to 126.
-fn is_name(token: &[u8]) -> bool
+pub fn is_name(token: &[u8]) -> bool
     ensures { result ≡ is_name token.now }
 {
     !token.is_empty() && token.len() <= 255 && are_name_bytes(token)

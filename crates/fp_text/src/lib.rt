@@ -8,7 +8,7 @@ mod numbers;
 mod whole;
 mod writing;
 
-pub use cursor::{Token, Tokens, Word};
+pub use cursor::{Token, Tokens, Word, is_name};
 pub use fault::{Kind, TextFault};
 pub use numbers::{NumberFault, number, signed};
 pub use whole::{WholeFault, read_whole};

@@ -1,0 +1,165 @@
+//! Reading the nets into a builder.
+
+ghost use Rattle.std.specs.Prelude.{◌≡◌, ◌<◌, ◌≤◌, ◌+◌, ◌^◌, [], length, true, false, IfOk};
+ghost use Rattle.std.specs.Option.{option_map};
+ghost use Rattle.fp_text.specs.Reading.{Gives, many_next};
+ghost use Rattle.fp_tech.specs.Book.{is_among};
+ghost use Rattle.fp_netlist.specs.Netlist.{cell_names};
+ghost use Rattle.fp_contest_in.specs.Text.{with_conn_text, with_conn_texts, with_net_text, with_net_texts};
+ghost use Rattle.fp_contest_in.specs.Statements.{new_name_next, cut_at_slash, path_of, net_pin_next, net_next, nets_next};
+ghost use Rattle.fp_contest_in.specs.Growing.{Grows, conn_item, net_item};
+
+use crate::sections::number;
+use fp_base::NetId;
+use fp_netlist::ProblemBuilder;
+use fp_tech::BuildFault;
+use fp_text::{Kind, TextFault, Tokens, Word, is_name};
+
+/// The most nets.
+const NETS: u32 = 1 << 18;
+
+/// The most connections of all nets.
+const CONNS: u32 = 1 << 21;
+
+/// What stands before the last `/` of a token and behind it, if there is one.
+fn cut_at_slash(token: &[u8]) -> Option<(&[u8], &[u8])>
+    ensures { option_map (λ path. (path.0.now, path.1.now)) result ≡ cut_at_slash token.now }
+{
+    let slash = token.iter().rposition(|&byte| byte == b'/')?;
+    Some((&token[..slash], &token[slash + 1..]))
+}
+
+/// The names of an instance and of its pin in a token, which is cut at its last `/`. None where there is none, or a
+/// part is no name.
+#[tactic(auto, unfolding(crate::specs::Statements::path_of))]
+fn path(token: &[u8]) -> Option<(&[u8], &[u8])>
+    ensures { option_map (λ path. (path.0.now, path.1.now)) result ≡ path_of token.now }
+{
+    let (inst, pin) = cut_at_slash(token)?;
+    if is_name(inst) && is_name(pin) {
+        Some((inst, pin))
+    } else {
+        None
+    }
+}
+
+/// Adds the next connection to a net: `Name` where its token is no path, else `Unknown` where there is no such cell, or
+/// its library cell lacks the pin in the technology of either die.
+#[tactic(auto, unfolding(crate::specs::Statements::net_pin_next))]
+fn next_conn(
+    builder: &mut ProblemBuilder,
+    net: NetId,
+    tokens: &mut Tokens<'_>,
+) -> Result<(), TextFault>
+    requires net { net.0 < length builder.old.nets }
+    requires room { length builder.old.conns < 2 ^ 21 }
+    ensures { Grows (with_conn_text net.0) result builder.old builder.new tokens.new (net_pin_next builder.old tokens.old) }
+{
+    tokens.keyword(b"Pin")?;
+    let word = tokens.word()?;
+    let Some((inst, pin)) = path(word.text) else {
+        return Err(TextFault::Wrong {
+            at: word.at,
+            kind: Kind::Name,
+        });
+    };
+    let Some(cell) = builder.cell_named(inst) else {
+        return Err(TextFault::Wrong {
+            at: word.at,
+            kind: Kind::Unknown,
+        });
+    };
+    match builder.connect(net, cell, pin) {
+        Ok(_) => Ok(()),
+        Err(BuildFault::Unknown) => Err(TextFault::Wrong {
+            at: word.at,
+            kind: Kind::Unknown,
+        }),
+        Err(BuildFault::Memory) => Err(TextFault::Memory),
+        Err(_) => unreachable!(),
+    }
+}
+
+/// Adds so many connections to a net.
+fn conns(
+    builder: &mut ProblemBuilder,
+    net: NetId,
+    count: u32,
+    tokens: &mut Tokens<'_>,
+) -> Result<(), TextFault>
+    requires net { net.0 < length builder.old.nets }
+    requires room { length builder.old.conns + count ≤ 2 ^ 21 }
+    ensures { Grows (with_conn_texts net.0) result builder.old builder.new tokens.new
+        (many_next (conn_item builder.old) count [] tokens.old) }
+{
+    for _ in 0..count {
+        next_conn(builder, net, tokens)?;
+    }
+    Ok(())
+}
+
+/// The next token as the name of a net that is not there, else `Twice`.
+#[tactic(auto, unfolding(crate::specs::Statements::new_name_next))]
+fn new_net_name<'a>(
+    builder: &ProblemBuilder,
+    tokens: &mut Tokens<'a>,
+) -> Result<Word<'a>, TextFault>
+    ensures gives { Gives (λ w. w.text.now) result tokens.new (new_name_next builder.now.nets tokens.old) }
+    ensures new { IfOk result (λ w. is_among w.text.now builder.now.nets ≡ false) }
+{
+    let name = tokens.name()?;
+    if builder.net_named(name.text).is_some() {
+        return Err(TextFault::Wrong {
+            at: name.at,
+            kind: Kind::Twice,
+        });
+    }
+    Ok(name)
+}
+
+/// Adds the next net with its connections; `Limit` where they are with those of the nets before more than 2^21.
+#[tactic(auto, unfolding(crate::specs::Statements::net_next))]
+fn next_net(builder: &mut ProblemBuilder, tokens: &mut Tokens<'_>) -> Result<(), TextFault>
+    requires { length builder.old.nets < 2 ^ 18 }
+    ensures { Grows with_net_text result builder.old builder.new tokens.new
+        (net_next builder.old builder.old.nets (length builder.old.conns) tokens.old) }
+{
+    tokens.keyword(b"Net")?;
+    let name = new_net_name(builder, tokens)?;
+    let count = number(tokens, 0, CONNS - builder.conns(), Kind::Limit)?;
+    match builder.add_net(name.text) {
+        Ok(net) => conns(builder, net, count, tokens),
+        Err(BuildFault::Memory) => Err(TextFault::Memory),
+        Err(_) => unreachable!(),
+    }
+}
+
+/// Adds so many nets to a problem that has none.
+fn many_nets(
+    builder: &mut ProblemBuilder,
+    count: u32,
+    tokens: &mut Tokens<'_>,
+) -> Result<(), TextFault>
+    requires none { builder.old.nets ≡ [] }
+    requires no_conns { builder.old.conns ≡ [] }
+    requires few { count ≤ 2 ^ 18 }
+    ensures { Grows with_net_texts result builder.old builder.new tokens.new
+        (many_next (net_item builder.old) count [] tokens.old) }
+{
+    for _ in 0..count {
+        next_net(builder, tokens)?;
+    }
+    Ok(())
+}
+
+/// Reads the nets into a problem that has none.
+#[tactic(auto, unfolding(crate::specs::Statements::nets_next))]
+pub fn nets(builder: &mut ProblemBuilder, tokens: &mut Tokens<'_>) -> Result<(), TextFault>
+    requires none { builder.old.nets ≡ [] }
+    requires no_conns { builder.old.conns ≡ [] }
+    ensures { Grows with_net_texts result builder.old builder.new tokens.new (nets_next builder.old tokens.old) }
+{
+    tokens.keyword(b"NumNets")?;
+    let count = number(tokens, 0, NETS, Kind::Limit)?;
+    many_nets(builder, count, tokens)
+}
