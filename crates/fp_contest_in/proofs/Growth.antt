@@ -2,14 +2,14 @@
 use Rattle.std.proofs.Common.{◌≡◌, ℕ, zero, suc, ◌+◌, ◌-◌, ◌<◌, ◌≤◌, Bool, true, false, cond, List, [], ◌∷◌, ◌++◌, length, map, Option, Some, None, Result, Ok, Err, IsTrue, refl, sym, ap, subst, ◌∙◌, arith, append_assoc, inl, inr}
 use Rattle.std.specs.Prelude.{is_some, option_map, option_and_then, unwrap_or, find, nat_eq}
 use Rattle.std.specs.Str.{bytes_eq}
-use Rattle.std.proofs.lemmas.List.{append-nil, map_push, length-append}
+use Rattle.std.proofs.lemmas.List.{append-nil, map_push, length-append, length-map}
 use Rattle.std.proofs.lemmas.Bool.{ne_eqb, eq-eqb, cases_Bool, both_ways}
 use Rattle.std.proofs.lemmas.Slice.Eq.{bytes_eq-Decides}
 use Rattle.fp_text.specs.Reading.{Left, Read, GivesFault, many_next}
 use Rattle.fp_text.specs.ReadingLaws.{many_step, many_ends, many_done}
 use Rattle.fp_text.specs.declared.fault.TextFault.{TextFault}
-use Rattle.fp_tech.specs.Book.{Pin, Lib, Book, place_of, is_among, tech_names, libs_of, lib_in, has, has_name, pins_in, id_for, with_name, with_tech, with_lib, with_pin}
-use Rattle.fp_tech.specs.BookLaws.{techs-with_lib, techs-with_pin, tech_names-with_lib, tech_names-with_pin, libs_of-with_lib, has-with_pin, pins_in-with_pin, lib_in-with_pin, place_within, libs_of-with_tech_new, tech_names-with_tech}
+use Rattle.fp_tech.specs.Book.{Pin, Lib, Book, place_of, is_among, tech_names, libs_of, lib_in, has, has_name, pins_in, id_for, with_name, with_tech, with_lib, with_pin, more_pins}
+use Rattle.fp_tech.specs.BookLaws.{techs-with_lib, techs-with_pin, tech_names-with_lib, tech_names-with_pin, libs_of-with_lib, libs_of-with_pin, has-with_pin, pins_in-with_pin, lib_in-with_pin, place_within, libs_of-with_tech_new, tech_names-with_tech}
 use Rattle.fp_contest_in.specs.Text.{LibText, TechText, lib_name_list, grown, with_pins, with_lib_text, with_lib_texts, with_tech_text}
 use Rattle.fp_contest_in.specs.Growing.{Knows}
 use Rattle.fp_contest_in.proofs.Names.{place_same, place_stays, place-push, is_among-push}
@@ -44,6 +44,27 @@ grown_fault e grow item count i old now l total items lt fails so_far = many_end
 pub grown_all : {V A : Type 0} (grow : V → A → V) (item : List A → Left → Read A) (count i : ℕ) (old now : V) (l : Left) (total : Read (List A)) (items : List A) → count ≤ i
     → Grown grow item count i old now l total items → total ≡ Ok (items, l)
 grown_all grow item count i old now l total items le so_far = many_done item count i items l total le so_far.reading
+
+-- the items so far, one a turn
+pub record Counted {V A : Type 0} (grow : V → A → V) (item : List A → Left → Read A) (count i : ℕ) (old now : V) (l : Left) (total : Read (List A)) : Type 0 where
+  pub items : List A
+  pub grown : Grown grow item count i old now l total items
+  pub count_is : length items ≡ i
+
+pub counted_none : {V A : Type 0} (grow : V → A → V) (item : List A → Left → Read A) (count : ℕ) (old : V) (l : Left) → Counted grow item count 0 old old l (many_next item count [] l)
+counted_none grow item count old l = record { items = []; grown = grown_none grow item count old l; count_is = refl }
+
+pub counted_more : {V A : Type 0} (grow : V → A → V) (item : List A → Left → Read A) (count i : ℕ) (old now next : V) (l after : Left) (total : Read (List A)) (x : A) → i < count
+    → (so_far : Counted grow item count i old now l total) → item so_far.items l ≡ Ok (x, after) → next ≡ grow now x → Counted grow item count (i + 1) old next after total
+counted_more grow item count i old now next l after total x lt so_far read is = record {
+  items = so_far.items ++ x ∷ [];
+  grown = grown_more grow item count i old now next l after total so_far.items x lt read is so_far.grown;
+  count_is = length-append so_far.items (x ∷ []) ∙ ap (λ (n : ℕ). n + 1) so_far.count_is;
+}
+
+pub counted_all : {V A : Type 0} (grow : V → A → V) (item : List A → Left → Read A) (count i : ℕ) (old now : V) (l : Left) (total : Read (List A)) → count ≤ i
+    → (so_far : Counted grow item count i old now l total) → total ≡ Ok (so_far.items, l)
+counted_all grow item count i old now l total le so_far = grown_all grow item count i old now l total so_far.items le so_far.grown
 
 -- ---- pins
 
@@ -198,6 +219,17 @@ knows_more t book lib names below knows name =
 pub techs-with_lib_text : (t : ℕ) (book : Book) (lib : LibText) → length (with_lib_text t book lib).techs ≡ length book.techs
 techs-with_lib_text t book lib =
     techs-with_pins t (id_for book lib.name) (with_lib book t lib.name lib.width lib.height) lib.pins ∙ techs-with_lib book t lib.name lib.width lib.height
+
+libs_of-with_pins : (t id : ℕ) (book : Book) (pins : List Pin) → length (libs_of (with_pins t id book pins) t) ≡ length (libs_of book t)
+unfolding grown
+libs_of-with_pins t id book [] = refl
+libs_of-with_pins t id book (pin ∷ pins) =
+    libs_of-with_pins t id (with_pin book t id pin) pins ∙ ap (λ (libs : List Lib). length libs) (libs_of-with_pin book t id pin) ∙ length-map (libs_of book t) (more_pins id pin)
+
+pub libs_of-with_lib_text : (t : ℕ) (book : Book) (lib : LibText) → t < length book.techs → length (libs_of (with_lib_text t book lib) t) ≡ length (libs_of book t) + 1
+libs_of-with_lib_text t book lib below =
+    libs_of-with_pins t (id_for book lib.name) (with_lib book t lib.name lib.width lib.height) lib.pins
+    ∙ ap (λ (libs : List Lib). length libs) (libs_of-with_lib book t lib.name lib.width lib.height below) ∙ length-append (libs_of book t) _
 
 pub tech_names-with_lib_text : (t : ℕ) (book : Book) (lib : LibText) → tech_names (with_lib_text t book lib) ≡ tech_names book
 tech_names-with_lib_text t book lib =

@@ -10,28 +10,7 @@ use Rattle.fp_contest_in.specs.Text.{InstText, ConnText, NetText, inst_name_list
 use Rattle.fp_contest_in.specs.ProblemLaws.{cell_of, insts_added, conns_added, plan-with_inst_texts, cell_names-with_inst_texts, plan-with_net_texts, cells-with_net_texts, nets-with_net_texts, conns-with_net_texts}
 use Rattle.fp_contest_in.specs.Statements.{inst_next, net_pin_next, net_next}
 use Rattle.fp_contest_in.specs.Growing.{inst_item, conn_item, net_item}
-use Rattle.fp_contest_in.proofs.Growth.{Grown, grown_none, grown_more, grown_fault, grown_all}
-
--- the items so far, one a turn
-pub record Counted {A : Type 0} (grow : Netlist → A → Netlist) (item : List A → Left → Read A) (count i : ℕ) (old now : Netlist) (l : Left) (total : Read (List A)) : Type 0 where
-  pub items : List A
-  pub grown : Grown grow item count i old now l total items
-  pub count_is : length items ≡ i
-
-pub counted_none : {A : Type 0} (grow : Netlist → A → Netlist) (item : List A → Left → Read A) (count : ℕ) (old : Netlist) (l : Left) → Counted grow item count 0 old old l (many_next item count [] l)
-counted_none grow item count old l = record { items = []; grown = grown_none grow item count old l; count_is = refl }
-
-pub counted_more : {A : Type 0} (grow : Netlist → A → Netlist) (item : List A → Left → Read A) (count i : ℕ) (old now next : Netlist) (l after : Left) (total : Read (List A)) (x : A) → i < count
-    → (so_far : Counted grow item count i old now l total) → item so_far.items l ≡ Ok (x, after) → next ≡ grow now x → Counted grow item count (i + 1) old next after total
-counted_more grow item count i old now next l after total x lt so_far read is = record {
-  items = so_far.items ++ x ∷ [];
-  grown = grown_more grow item count i old now next l after total so_far.items x lt read is so_far.grown;
-  count_is = length-append so_far.items (x ∷ []) ∙ ap (λ (n : ℕ). n + 1) so_far.count_is;
-}
-
-pub counted_all : {A : Type 0} (grow : Netlist → A → Netlist) (item : List A → Left → Read A) (count i : ℕ) (old now : Netlist) (l : Left) (total : Read (List A)) → count ≤ i
-    → (so_far : Counted grow item count i old now l total) → total ≡ Ok (so_far.items, l)
-counted_all grow item count i old now l total le so_far = grown_all grow item count i old now l total so_far.items le so_far.grown
+use Rattle.fp_contest_in.proofs.Growth.{Counted, counted_more, grown_fault}
 
 -- ---- instances
 

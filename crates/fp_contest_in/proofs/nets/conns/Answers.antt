@@ -3,7 +3,8 @@ use Rattle.std.proofs.lemmas.Result.{err_from_is_err_and}
 use Rattle.fp_text.specs.Reading.{many_next}
 use Rattle.fp_contest_in.specs.Text.{with_conn_text}
 use Rattle.fp_contest_in.specs.Growing.{conn_item}
-use Rattle.fp_contest_in.proofs.ProblemLoops.{counted_none, counted_all, conns_room, conns_nets, conns_more, conns_fault}
+use Rattle.fp_contest_in.proofs.Growth.{counted_none, counted_all}
+use Rattle.fp_contest_in.proofs.ProblemLoops.{conns_room, conns_nets, conns_more, conns_fault}
 use Rattle.fp_contest_in.proofs.nets.conns.Goals as goal
 
 pub loop-init : goal.loop-init

@@ -3,7 +3,8 @@ use Rattle.std.proofs.lemmas.Result.{err_from_is_err_and}
 use Rattle.fp_text.specs.Reading.{many_next}
 use Rattle.fp_contest_in.specs.Text.{with_net_text}
 use Rattle.fp_contest_in.specs.Growing.{net_item}
-use Rattle.fp_contest_in.proofs.ProblemLoops.{counted_none, counted_all, nets_room, nets_more, nets_fault}
+use Rattle.fp_contest_in.proofs.Growth.{counted_none, counted_all}
+use Rattle.fp_contest_in.proofs.ProblemLoops.{nets_room, nets_more, nets_fault}
 use Rattle.fp_contest_in.proofs.nets.many_nets.Goals as goal
 
 pub loop-init : goal.loop-init

@@ -1,4 +1,4 @@
-use Rattle.std.proofs.Common.{[]}
+use Rattle.std.proofs.Common.{[], arith}
 use Rattle.std.proofs.lemmas.Result.{err_from_is_err_and}
 use Rattle.fp_text.specs.Reading.{many_next}
 use Rattle.fp_contest_in.specs.Growing.{lib_item}
@@ -6,10 +6,13 @@ use Rattle.fp_contest_in.proofs.Loops.{libs_none, libs_more, libs_fault, libs_al
 use Rattle.fp_contest_in.proofs.techs.libs.Goals as goal
 
 pub loop-init : goal.loop-init
-loop-init c = libs_none c.args.tech.0 c.args.count c.args.book.now c.args.tokens.now c.requires.there c.requires.none
+loop-init c = libs_none c.args.tech.0 c.args.count c.args.book.now c.args.tokens.now c.requires.there c.requires.none c.requires.no_names
 
-pub next_lib-requires : goal.next_lib-requires
-next_lib-requires c = c.loop.invariant.below
+pub next_lib-requires-clause-there : goal.next_lib-requires-clause-there
+next_lib-requires-clause-there c = c.loop.invariant.below
+
+pub next_lib-requires-clause-room : goal.next_lib-requires-clause-room
+next_lib-requires-clause-room c = omega (arith, c.loop.invariant.many)
 
 pub returns-in_err-next_lib : goal.returns-in_err-next_lib
 returns-in_err-next_lib c =
