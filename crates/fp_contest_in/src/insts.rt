@@ -11,7 +11,7 @@ ghost use Rattle.fp_contest_in.specs.Statements.{new_name_next, lib_name_next, i
 ghost use Rattle.fp_contest_in.specs.Growing.{Grows, inst_item};
 ghost use Rattle.fp_contest_in.specs.Given.{IsLibOf, GivesLib};
 
-use crate::sections::number;
+use crate::steps::{number, unless_there};
 use fp_base::{Die, LibId};
 use fp_netlist::ProblemBuilder;
 use fp_tech::{BuildFault, Dies};
@@ -66,13 +66,7 @@ fn new_inst_name<'a>(
     ensures new { IfOk result (λ w. is_among w.text.now (cell_names builder.now) ≡ false) }
 {
     let name = tokens.name()?;
-    if builder.cell_named(name.text).is_some() {
-        return Err(TextFault::Wrong {
-            at: name.at,
-            kind: Kind::Twice,
-        });
-    }
-    Ok(name)
+    unless_there(name, builder.cell_named(name.text).is_some())
 }
 
 /// Adds the next instance.

@@ -6,6 +6,7 @@ mod nets;
 mod reading;
 mod section;
 mod sections;
+mod steps;
 mod techs;
 
 pub use reading::read_problem;

@@ -9,7 +9,7 @@ ghost use Rattle.fp_contest_in.specs.Text.{with_conn_text, with_conn_texts, with
 ghost use Rattle.fp_contest_in.specs.Statements.{new_name_next, cut_at_slash, path_of, net_pin_next, net_next, nets_next};
 ghost use Rattle.fp_contest_in.specs.Growing.{Grows, conn_item, net_item};
 
-use crate::sections::number;
+use crate::steps::{number, unless_there};
 use fp_base::NetId;
 use fp_netlist::ProblemBuilder;
 use fp_tech::BuildFault;
@@ -108,13 +108,7 @@ fn new_net_name<'a>(
     ensures new { IfOk result (λ w. is_among w.text.now builder.now.nets ≡ false) }
 {
     let name = tokens.name()?;
-    if builder.net_named(name.text).is_some() {
-        return Err(TextFault::Wrong {
-            at: name.at,
-            kind: Kind::Twice,
-        });
-    }
-    Ok(name)
+    unless_there(name, builder.net_named(name.text).is_some())
 }
 
 /// Adds the next net with its connections; `Limit` where they are with those of the nets before more than 2^21.

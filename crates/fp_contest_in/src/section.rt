@@ -134,7 +134,7 @@ impl Found {
     }
 
     /// The same with other words for a die.
-    pub fn with_die(self, die: Die, found: DieFound) -> Found
+    fn with_die(self, die: Die, found: DieFound) -> Found
         ensures { result ≡ set_die self die found }
     {
         match die {
@@ -144,6 +144,39 @@ impl Found {
                 ..self
             },
         }
+    }
+
+    /// The same with a die's percent.
+    pub fn with_percent(self, die: Die, percent: u32) -> Found
+        ensures { result ≡ set_die self die (record (die_found self die) { percent = Some percent }) }
+    {
+        let found = DieFound {
+            percent: Some(percent),
+            ..self.die(die)
+        };
+        self.with_die(die, found)
+    }
+
+    /// The same with a die's rows.
+    pub fn with_rows(self, die: Die, rows: RowsFound) -> Found
+        ensures { result ≡ set_die self die (record (die_found self die) { rows = Some rows }) }
+    {
+        let found = DieFound {
+            rows: Some(rows),
+            ..self.die(die)
+        };
+        self.with_die(die, found)
+    }
+
+    /// The same with a die's technology.
+    pub fn with_tech(self, die: Die, tech: TechId) -> Found
+        ensures { result ≡ set_die self die (record (die_found self die) { tech = Some tech }) }
+    {
+        let found = DieFound {
+            tech: Some(tech),
+            ..self.die(die)
+        };
+        self.with_die(die, found)
     }
 
     /// Whether the section was read.

@@ -7,36 +7,14 @@ ghost use Rattle.fp_tech.specs.Plan.{IsFrame};
 ghost use Rattle.fp_contest_in.specs.Statements.{frame_next, sizes_next, rows_next, tech_name_next, fields_next, section_next, sections_next, none_found};
 ghost use Rattle.fp_contest_in.specs.Ranges.{AreRows, AreInRange, IsComplete};
 
-use crate::section::{DieFound, Found, RowsFound, Section, section_of};
+use crate::section::{Found, RowsFound, Section, section_of};
+use crate::steps::{GREATEST, number, sizes};
 use fp_base::TechId;
 use fp_tech::{Frame, TechBook};
 use fp_text::{Kind, TextFault, Tokens};
 
 /// The number of sections.
 const SECTIONS: u32 = 9;
-
-/// The greatest number that is read.
-pub const GREATEST: u32 = 1 << 30;
-
-/// The next token as a number from `least` to `most`; above it the fault is of the kind `above`.
-pub fn number(tokens: &mut Tokens<'_>, least: u32, most: u32, above: Kind) -> Result<u32, TextFault>
-    ensures gives { Gives (λ n. n) result tokens.new (number_next least most above tokens.old) }
-    ensures range { IfOk result (λ n. (least ≤ n) × (n ≤ most) × (n ≤ 2 ^ 30)) }
-{
-    let value = tokens.number(u64::from(least), u64::from(most), above)?;
-    Ok(value as u32)
-}
-
-/// Two sizes from 1.
-#[tactic(auto, unfolding(crate::specs::Statements::sizes_next))]
-pub fn sizes(tokens: &mut Tokens<'_>) -> Result<(u32, u32), TextFault>
-    ensures gives { Gives (λ s. s) result tokens.new (sizes_next tokens.old) }
-    ensures range { IfOk result (λ s. (1 ≤ s.0) × (s.0 ≤ 2 ^ 30) × (1 ≤ s.1) × (s.1 ≤ 2 ^ 30)) }
-{
-    let width = number(tokens, 1, GREATEST, Kind::Range)?;
-    let height = number(tokens, 1, GREATEST, Kind::Range)?;
-    Ok((width, height))
-}
 
 #[tactic(auto, unfolding(crate::specs::Statements::frame_next))]
 fn frame(tokens: &mut Tokens<'_>) -> Result<Frame, TextFault>
@@ -104,34 +82,16 @@ fn fields(
             Ok(Found { frame, ..found })
         }
         Section::MaxUtil(die) => {
-            let percent = Some(number(tokens, 0, 100, Kind::Range)?);
-            Ok(found.with_die(
-                die,
-                DieFound {
-                    percent,
-                    ..found.die(die)
-                },
-            ))
+            let percent = number(tokens, 0, 100, Kind::Range)?;
+            Ok(found.with_percent(die, percent))
         }
         Section::Rows(die) => {
-            let rows = Some(rows(at, tokens)?);
-            Ok(found.with_die(
-                die,
-                DieFound {
-                    rows,
-                    ..found.die(die)
-                },
-            ))
+            let rows = rows(at, tokens)?;
+            Ok(found.with_rows(die, rows))
         }
         Section::Tech(die) => {
-            let tech = Some(tech(book, tokens)?);
-            Ok(found.with_die(
-                die,
-                DieFound {
-                    tech,
-                    ..found.die(die)
-                },
-            ))
+            let tech = tech(book, tokens)?;
+            Ok(found.with_tech(die, tech))
         }
         Section::TerminalSize => {
             let size = Some(sizes(tokens)?);

@@ -7,7 +7,7 @@ ghost use Rattle.fp_contest_in.specs.Text.{pin_name_list, with_pins, with_lib_te
 ghost use Rattle.fp_contest_in.specs.Statements.{new_name_next, pin_next, lib_next, tech_next, techs_next};
 ghost use Rattle.fp_contest_in.specs.Growing.{Grows, Knows, pin_item, lib_item, tech_item};
 
-use crate::sections::{GREATEST, number, sizes};
+use crate::steps::{GREATEST, number, sizes, unless_there};
 use fp_base::{LibId, TechId};
 use fp_tech::{BuildFault, TechBook};
 use fp_text::{Kind, TextFault, Tokens, Word};
@@ -32,13 +32,7 @@ fn new_pin_name<'a>(
     ensures new { IfOk result (λ w. is_among w.text.now (pin_name_list (pins_in book.now tech.0 lib.0)) ≡ false) }
 {
     let name = tokens.name()?;
-    if book.pin_named(tech, lib, name.text).is_some() {
-        return Err(TextFault::Wrong {
-            at: name.at,
-            kind: Kind::Twice,
-        });
-    }
-    Ok(name)
+    unless_there(name, book.pin_named(tech, lib, name.text).is_some())
 }
 
 /// Adds the next pin to a library cell.
@@ -110,13 +104,7 @@ fn new_lib_name<'a>(
     ensures new { IfOk result (λ w. (has_name book.now tech.0 w.text.now ≡ false) × IsBook book.now) }
 {
     let name = tokens.name()?;
-    if has_lib_name(book, tech, name.text) {
-        return Err(TextFault::Wrong {
-            at: name.at,
-            kind: Kind::Twice,
-        });
-    }
-    Ok(name)
+    unless_there(name, has_lib_name(book, tech, name.text))
 }
 
 /// Adds the next library cell, with its pins, to a technology.
@@ -164,13 +152,7 @@ fn new_tech_name<'a>(book: &TechBook, tokens: &mut Tokens<'a>) -> Result<Word<'a
     ensures new { IfOk result (λ w. is_among w.text.now (tech_names book.now) ≡ false) }
 {
     let name = tokens.name()?;
-    if book.tech_named(name.text).is_some() {
-        return Err(TextFault::Wrong {
-            at: name.at,
-            kind: Kind::Twice,
-        });
-    }
-    Ok(name)
+    unless_there(name, book.tech_named(name.text).is_some())
 }
 
 /// Adds the next technology, with its library cells.
