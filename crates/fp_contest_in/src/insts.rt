@@ -11,7 +11,7 @@ ghost use Rattle.fp_contest_in.specs.Statements.{new_name_next, lib_name_next, i
 ghost use Rattle.fp_contest_in.specs.Growing.{Grows, inst_item};
 ghost use Rattle.fp_contest_in.specs.Given.{IsLibOf, GivesLib};
 
-use crate::steps::{number, unless_there};
+use crate::steps::{number, unless_there, wrong};
 use fp_base::{Die, LibId};
 use fp_netlist::ProblemBuilder;
 use fp_tech::{BuildFault, Dies};
@@ -47,13 +47,7 @@ fn known_lib(dies: &Dies, tokens: &mut Tokens<'_>) -> Result<LibId, TextFault>
     ensures { GivesLib dies.now result tokens.new (lib_name_next dies.now tokens.old) }
 {
     let name = tokens.name()?;
-    match lib_named(dies, name.text) {
-        Some(lib) => Ok(lib),
-        None => Err(TextFault::Wrong {
-            at: name.at,
-            kind: Kind::Unknown,
-        }),
-    }
+    lib_named(dies, name.text).ok_or(wrong(name.at, Kind::Unknown))
 }
 
 /// The next token as the name of an instance that is not there, else `Twice`.

@@ -9,7 +9,7 @@ ghost use Rattle.fp_contest_in.specs.Text.{with_conn_text, with_conn_texts, with
 ghost use Rattle.fp_contest_in.specs.Statements.{new_name_next, cut_at_slash, path_of, net_pin_next, net_next, nets_next};
 ghost use Rattle.fp_contest_in.specs.Growing.{Grows, conn_item, net_item};
 
-use crate::steps::{number, unless_there};
+use crate::steps::{number, unless_there, wrong};
 use fp_base::NetId;
 use fp_netlist::ProblemBuilder;
 use fp_tech::BuildFault;
@@ -57,24 +57,13 @@ fn next_conn(
 {
     tokens.keyword(b"Pin")?;
     let word = tokens.word()?;
-    let Some((inst, pin)) = path(word.text) else {
-        return Err(TextFault::Wrong {
-            at: word.at,
-            kind: Kind::Name,
-        });
-    };
-    let Some(cell) = builder.cell_named(inst) else {
-        return Err(TextFault::Wrong {
-            at: word.at,
-            kind: Kind::Unknown,
-        });
-    };
+    let (inst, pin) = path(word.text).ok_or(wrong(word.at, Kind::Name))?;
+    let cell = builder
+        .cell_named(inst)
+        .ok_or(wrong(word.at, Kind::Unknown))?;
     match builder.connect(net, cell, pin) {
         Ok(_) => Ok(()),
-        Err(BuildFault::Unknown) => Err(TextFault::Wrong {
-            at: word.at,
-            kind: Kind::Unknown,
-        }),
+        Err(BuildFault::Unknown) => Err(wrong(word.at, Kind::Unknown)),
         Err(BuildFault::Memory) => Err(TextFault::Memory),
         Err(_) => unreachable!(),
     }

@@ -13,6 +13,7 @@ use crate::insts::insts;
 use crate::nets::nets;
 use crate::section::Found;
 use crate::sections::sections;
+use crate::steps::wrong;
 use crate::techs::techs;
 use fp_netlist::{Problem, ProblemBuilder};
 use fp_tech::{Dies, DiesFault, TechBook};
@@ -35,10 +36,10 @@ fn dies_of(alloc: Global, book: TechBook, found: Found) -> Result<Dies, TextFaul
         setup.terminal,
     ) {
         Ok(dies) => Ok(dies),
-        Err(DiesFault::RowsOutside(die)) => Err(TextFault::Wrong {
-            at: found.die(die).rows.unwrap().at,
-            kind: Kind::Rows,
-        }),
+        Err(DiesFault::RowsOutside(die)) => {
+            let rows = found.die(die).rows.unwrap();
+            Err(wrong(rows.at, Kind::Rows))
+        }
         Err(DiesFault::Memory) => Err(TextFault::Memory),
     }
 }

@@ -8,7 +8,7 @@ ghost use Rattle.fp_contest_in.specs.Statements.{frame_next, sizes_next, rows_ne
 ghost use Rattle.fp_contest_in.specs.Ranges.{AreRows, AreInRange, IsComplete};
 
 use crate::section::{Found, RowsFound, Section, section_of};
-use crate::steps::{GREATEST, number, sizes};
+use crate::steps::{GREATEST, number, sizes, wrong};
 use fp_base::TechId;
 use fp_tech::{Frame, TechBook};
 use fp_text::{Kind, TextFault, Tokens};
@@ -56,10 +56,7 @@ fn tech(book: &TechBook, tokens: &mut Tokens<'_>) -> Result<TechId, TextFault>
     let name = tokens.name()?;
     match book.tech_named(name.text) {
         Some(tech) => Ok(tech),
-        None => Err(TextFault::Wrong {
-            at: name.at,
-            kind: Kind::Unknown,
-        }),
+        None => Err(wrong(name.at, Kind::Unknown)),
     }
 }
 
@@ -112,17 +109,9 @@ fn next_section(book: &TechBook, found: Found, tokens: &mut Tokens<'_>) -> Resul
     ensures range { IfOk result (AreInRange (length book.now.techs)) }
 {
     let word = tokens.word()?;
-    let Some(section) = section_of(word.text) else {
-        return Err(TextFault::Wrong {
-            at: word.at,
-            kind: Kind::Word,
-        });
-    };
+    let section = section_of(word.text).ok_or(wrong(word.at, Kind::Word))?;
     if found.has(section) {
-        return Err(TextFault::Wrong {
-            at: word.at,
-            kind: Kind::Twice,
-        });
+        return Err(wrong(word.at, Kind::Twice));
     }
     fields(book, section, word.at, found, tokens)
 }

@@ -9,6 +9,13 @@ use fp_text::{Kind, TextFault, Tokens, Word};
 /// The greatest number that is read.
 pub const GREATEST: u32 = 1 << 30;
 
+/// The fault of that kind at that place.
+pub fn wrong(at: u64, kind: Kind) -> TextFault
+    ensures { result ≡ TextFault.Wrong at kind }
+{
+    TextFault::Wrong { at, kind }
+}
+
 /// The next token as a number from `least` to `most`; above it the fault is of the kind `above`.
 pub fn number(tokens: &mut Tokens<'_>, least: u32, most: u32, above: Kind) -> Result<u32, TextFault>
     ensures gives { Gives (λ n. n) result tokens.new (number_next least most above tokens.old) }
@@ -35,10 +42,7 @@ pub fn unless_there(name: Word<'_>, there: bool) -> Result<Word<'_>, TextFault>
     ensures twice { there ≡ true → result ≡ Err (TextFault.Wrong name.entry.at Kind.Twice) }
 {
     if there {
-        Err(TextFault::Wrong {
-            at: name.at,
-            kind: Kind::Twice,
-        })
+        Err(wrong(name.at, Kind::Twice))
     } else {
         Ok(name)
     }

@@ -8,5 +8,5 @@ returns-in-Ok c = λ left. setup_made c.args.book c.args.found c.setup-setup.res
 
 pub returns-in-Err-RowsOutside : goal.returns-in-Err-RowsOutside
 returns-in-Err-RowsOutside c = λ left.
-    setup_refused c.args.book c.args.found c.setup-setup.result c.in-Err-RowsOutside.die c.unwrap.result left c.setup-setup.ensures
-    (rw c.in-Err-RowsOutside.field-0-is at c.in-Err-RowsOutside.ensures) (ap (λ (die : DieFound). die.rows) (sym c.die.ensures) ∙ c.unwrap.ensures)
+    rw c.wrong.ensures (setup_refused c.args.book c.args.found c.setup-setup.result c.in-Err-RowsOutside.die c.unwrap-rows.result left c.setup-setup.ensures
+    (rw c.in-Err-RowsOutside.field-0-is at c.in-Err-RowsOutside.ensures) (ap (λ (die : DieFound). die.rows) (sym c.die.ensures) ∙ c.unwrap-rows.ensures))
