@@ -1,19 +1,18 @@
 -- What one statement adds to a problem.
-use Rattle.std.proofs.Common.{◌≡◌, ℕ, ◌-◌, ◌^◌, ◌<◌, ◌≤◌, Bool, true, false, cond, List, [], ◌∷◌, length, Option, Some, None, Result, Ok, Err, refl, sym, ap, subst, ◌∙◌, arith}
+use Rattle.std.proofs.Common.{◌≡◌, ℕ, ◌-◌, ◌^◌, ◌<◌, Bool, true, false, List, [], length, Option, Some, None, Result, Ok, Err, refl, sym, ap, ◌∙◌, arith}
 use Rattle.std.specs.Prelude.{is_some, is_none, ◌||◌, ◌&&◌, codes, option_map, nat_le}
 use Rattle.std.proofs.lemmas.List.{length-map}
 use Rattle.fp_base.specs.declared.ids.CellId.{CellId}
 use Rattle.fp_base.specs.declared.ids.Die.TheVariants.{Top, Bottom}
 use Rattle.fp_text.specs.Words.{Word}
-use Rattle.fp_text.specs.Reading.{Left, Read, Fault, fault, keyword_next, word_next, number_next, many_next, GivesFault}
+use Rattle.fp_text.specs.Reading.{Left, Read, fault, keyword_next, word_next, number_next, many_next}
 use Rattle.fp_text.specs.declared.fault.Kind.TheVariants as kinds
 use Rattle.fp_text.specs.declared.fault.TextFault.{TextFault}
 use Rattle.fp_text.specs.declared.fault.TextFault.TheVariants.{Wrong, Memory}
 use Rattle.fp_tech.specs.Book.{place_of, refusal}
 use Rattle.fp_tech.specs.BookLaws.{place_within}
-use Rattle.fp_tech.specs.declared.fault.BuildFault.{BuildFault}
 use Rattle.fp_netlist.specs.Netlist.{Netlist, cell_names, pin_place, with_inst, with_net, with_conn, connect_refusal}
-use Rattle.fp_contest_in.specs.Text.{InstText, ConnText, NetText, with_inst_text, with_conn_text, with_conn_texts, with_net_text}
+use Rattle.fp_contest_in.specs.Text.{InstText, ConnText, with_inst_text, with_conn_text, with_conn_texts, with_net_text}
 use Rattle.fp_contest_in.specs.Grammar.{has_pin, most_conns}
 use Rattle.fp_contest_in.specs.Statements.{new_name_next, lib_name_next, inst_next, path_of, net_pin_next, net_next}
 use Rattle.fp_contest_in.specs.Given.{IsLibOf}
@@ -73,8 +72,7 @@ net_added (Err (Wrong place kind)) p with q l mid named counted r at conns count
     let same : many_next (conn_item p) count [] counted ≡ fault place kind = pins_as p with name count counted is ∙ grows in
     rw (keyword, new, ← many, number, same) refl
 net_added (Ok done) p with q l mid named counted r at conns count net name keyword new many number is net_is grows =
-    let same : many_next (conn_item p) count [] counted ≡ Ok (grows.0, r) = pins_as p with name count counted is ∙ grows.1 in
-    (
+    let same : many_next (conn_item p) count [] counted ≡ Ok (grows.0, r) = pins_as p with name count counted is ∙ grows.1 in (
       record { name = name; pins = grows.0 },
       rw (keyword, new, ← many, number, same) refl,
       grows.2 ∙ ap (λ (s : Netlist). with_conn_texts net s grows.0) is ∙ ap (λ (n : ℕ). with_conn_texts n (with_net p name) grows.0) net_is,

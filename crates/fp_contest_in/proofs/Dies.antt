@@ -1,19 +1,19 @@
 -- From what was read to the dies that it describes.
-use Rattle.std.proofs.Common.{◌≡◌, ℕ, Bool, true, false, List, [], ◌++◌, map, Option, Some, None, Result, Ok, Err, refl, sym, ap, subst, ◌∙◌}
+use Rattle.std.proofs.Common.{◌≡◌, ℕ, List, [], Option, Some, Result, Ok, Err, refl, sym, ap, subst, ◌∙◌}
 use Rattle.std.specs.Prelude.{unwrap_or}
 use Rattle.fp_base.specs.declared.ids.Die.{Die}
 use Rattle.fp_base.specs.declared.ids.Die.TheVariants.{Top, Bottom}
-use Rattle.fp_text.specs.Reading.{Left, Read, Fault, fault, GivesFault}
+use Rattle.fp_text.specs.Reading.{Left, fault, GivesFault}
 use Rattle.fp_text.specs.declared.fault.Kind.TheVariants as kinds
 use Rattle.fp_text.specs.declared.fault.TextFault.{TextFault}
 use Rattle.fp_text.specs.declared.fault.TextFault.TheVariants.{Wrong, Memory}
 use Rattle.fp_tech.specs.Book.{Book, no_techs, tech_names}
-use Rattle.fp_tech.specs.Plan.{Plan, rows_lie, Makes}
+use Rattle.fp_tech.specs.Plan.{Plan, Makes}
 use Rattle.fp_tech.specs.declared.dies.DiesFault.TheVariants.{RowsOutside}
 use Rattle.fp_contest_in.specs.declared.section.Setup.{Setup}
 use Rattle.fp_contest_in.specs.declared.section.RowsFound.{RowsFound}
 use Rattle.fp_contest_in.specs.declared.section.Found.{Found}
-use Rattle.fp_contest_in.specs.Text.{TechText, ProblemText, tech_name_list, with_tech_texts, plan_of}
+use Rattle.fp_contest_in.specs.Text.{TechText, tech_name_list, with_tech_texts}
 use Rattle.fp_contest_in.specs.Statements.{die_found, techs_next, sections_next, none_found, setup_of, no_rows, setup_checked, front_next}
 use Rattle.fp_contest_in.specs.Given.{plan_with, GivesSetup, GivesFront}
 use Rattle.fp_contest_in.proofs.Growth.{tech_names-grown}

@@ -1,27 +1,24 @@
 -- One section's fields: what is read is what they say, and what they say is read.
-use Rattle.std.proofs.Common.{◌≡◌, ℕ, zero, suc, ◌+◌, ◌^◌, ◌<◌, ◌≤◌, Bool, true, false, cond, List, [], ◌∷◌, ◌++◌, length, map, Option, Some, None, Result, Ok, Err, refl, sym, ap, subst, ◌∙◌, arith}
-use Rattle.std.specs.Prelude.{is_some, unwrap_or, slice_get}
-use Rattle.fp_base.specs.declared.ids.Die.{Die}
+use Rattle.std.proofs.Common.{◌≡◌, ℕ, ◌+◌, ◌^◌, true, false, List, [], ◌∷◌, Option, Some, None, Ok, refl, sym, ap, subst, ◌∙◌, arith}
+use Rattle.std.specs.Prelude.{is_some, unwrap_or}
 use Rattle.fp_base.specs.declared.ids.Die.TheVariants.{Top, Bottom}
 use Rattle.fp_base.specs.declared.ids.TechId.{TechId}
 use Rattle.fp_text.specs.Words.{Word}
-use Rattle.fp_text.specs.Reading.{Left, Read, Fault, fault, ◌>>=◌, name_next, number_next}
+use Rattle.fp_text.specs.Reading.{Left, name_next, number_next}
 use Rattle.fp_text.specs.ReadingLaws.{left_of, bind_ok, ok_is}
 use Rattle.fp_text.specs.declared.fault.Kind.{Kind}
 use Rattle.fp_text.specs.declared.fault.Kind.TheVariants as kinds
 use Rattle.fp_tech.specs.declared.dies.Frame.{Frame}
-use Rattle.fp_tech.specs.Book.{place_of, is_among}
+use Rattle.fp_tech.specs.Book.{place_of}
 use Rattle.fp_contest_in.specs.declared.section.Section.{Section}
 use Rattle.fp_contest_in.specs.declared.section.Section.TheVariants.{DieSize, MaxUtil, Rows, Tech, TerminalSize, TerminalSpacing}
 use Rattle.fp_contest_in.specs.declared.section.RowsFound.{RowsFound}
-use Rattle.fp_contest_in.specs.declared.section.DieFound.{DieFound}
 use Rattle.fp_contest_in.specs.declared.section.Found.{Found}
-use Rattle.fp_contest_in.specs.declared.section.Setup.{Setup}
 use Rattle.fp_contest_in.specs.Text.{TechText, tech_name_list}
-use Rattle.fp_contest_in.specs.Grammar.{Named, Numbers, Ranged, any_number, ranged, most_number, die_of, NamesTech, HasFields, section_number}
-use Rattle.fp_contest_in.specs.Statements.{frame_next, rows_next, known_tech, tech_name_next, sizes_next, fields_next, die_found, set_die, has_section, bits, setup_of, no_frame, no_rows}
+use Rattle.fp_contest_in.specs.Grammar.{Named, Numbers, any_number, ranged, most_number, NamesTech, HasFields, section_number}
+use Rattle.fp_contest_in.specs.Statements.{frame_next, rows_next, known_tech, tech_name_next, sizes_next, fields_next, set_die, has_section, bits, setup_of}
 use Rattle.fp_contest_in.proofs.Taken.{name_ok, name_again, number_ok, number_again}
-use Rattle.fp_contest_in.proofs.TechsAgree.{TwoSizes, sizes_ok, sizes_again}
+use Rattle.fp_contest_in.proofs.TechsAgree.{sizes_ok, sizes_again}
 use Rattle.fp_contest_in.proofs.Bits.{with_bit}
 use Rattle.fp_contest_in.proofs.Names.{AreNew, place_is, place_again}
 

@@ -1,16 +1,16 @@
 -- A book that grows item by item, as a loop reads them.
-use Rattle.std.proofs.Common.{◌≡◌, ℕ, zero, suc, ◌+◌, ◌-◌, ◌<◌, ◌≤◌, Bool, true, false, cond, List, [], ◌∷◌, ◌++◌, length, map, Option, Some, None, Result, Ok, Err, IsTrue, refl, sym, ap, subst, ◌∙◌, arith, append_assoc, inl, inr}
+use Rattle.std.proofs.Common.{◌≡◌, ℕ, ◌+◌, ◌-◌, ◌<◌, ◌≤◌, Bool, true, false, cond, List, [], ◌∷◌, ◌++◌, length, map, Option, Some, None, Ok, IsTrue, refl, sym, ap, subst, ◌∙◌, arith, append_assoc, inl, inr}
 use Rattle.std.specs.Prelude.{is_some, option_map, option_and_then, unwrap_or, find, nat_eq}
 use Rattle.std.specs.Str.{bytes_eq}
-use Rattle.std.proofs.lemmas.List.{append-nil, map_push, length-append, length-map}
+use Rattle.std.proofs.lemmas.List.{append-nil, length-append, length-map}
 use Rattle.std.proofs.lemmas.Bool.{ne_eqb, eq-eqb, cases_Bool, both_ways}
 use Rattle.std.proofs.lemmas.Slice.Eq.{bytes_eq-Decides}
 use Rattle.fp_text.specs.Reading.{Left, Read, GivesFault, many_next}
 use Rattle.fp_text.specs.ReadingLaws.{many_step, many_ends, many_done}
 use Rattle.fp_text.specs.declared.fault.TextFault.{TextFault}
-use Rattle.fp_tech.specs.Book.{Pin, Lib, Book, place_of, is_among, tech_names, libs_of, lib_in, has, has_name, pins_in, id_for, with_name, with_tech, with_lib, with_pin, more_pins}
-use Rattle.fp_tech.specs.BookLaws.{techs-with_lib, techs-with_pin, tech_names-with_lib, tech_names-with_pin, libs_of-with_lib, libs_of-with_pin, has-with_pin, pins_in-with_pin, lib_in-with_pin, place_within, libs_of-with_tech_new, tech_names-with_tech}
-use Rattle.fp_contest_in.specs.Text.{LibText, TechText, lib_name_list, grown, with_pins, with_lib_text, with_lib_texts, with_tech_text}
+use Rattle.fp_tech.specs.Book.{Pin, Lib, Book, place_of, tech_names, libs_of, lib_in, has, has_name, pins_in, id_for, with_name, with_tech, with_lib, with_pin, more_pins}
+use Rattle.fp_tech.specs.BookLaws.{techs-with_lib, techs-with_pin, tech_names-with_lib, tech_names-with_pin, libs_of-with_lib, libs_of-with_pin, has-with_pin, pins_in-with_pin, place_within, libs_of-with_tech_new, tech_names-with_tech}
+use Rattle.fp_contest_in.specs.Text.{LibText, TechText, grown, with_pins, with_lib_text, with_lib_texts, with_tech_text}
 use Rattle.fp_contest_in.specs.Growing.{Knows}
 use Rattle.fp_contest_in.proofs.Names.{place_same, place_stays, place-push, is_among-push}
 

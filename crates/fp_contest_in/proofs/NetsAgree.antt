@@ -1,15 +1,15 @@
 -- Nets: what is read is in the grammar, and what is in the grammar is read.
-use Rattle.std.proofs.Common.{◌≡◌, ℕ, ◌-◌, ◌^◌, Bool, true, List, [], ◌∷◌, length, Option, Some, None, Result, Ok, Err, refl, sym, ap, subst, ◌∙◌, arith}
-use Rattle.std.specs.Prelude.{slice_get, codes}
+use Rattle.std.proofs.Common.{◌≡◌, ℕ, ◌-◌, ◌^◌, true, List, [], ◌∷◌, length, Option, Some, None, Ok, refl, sym, ap, subst, ◌∙◌, arith}
+use Rattle.std.specs.Prelude.{codes}
 use Rattle.fp_text.specs.Words.{Word}
 use Rattle.fp_text.specs.Numbers.{Spells}
-use Rattle.fp_text.specs.Reading.{Left, Read, Fault, ◌>>=◌, word_next, keyword_next, number_next, many_next}
+use Rattle.fp_text.specs.Reading.{Left, word_next, keyword_next, number_next, many_next}
 use Rattle.fp_text.specs.ReadingLaws.{left_of, bind_ok, cond_ok, ok_is, word_ok, word_again, Each, many_ok, many_again}
 use Rattle.fp_text.specs.declared.fault.Kind.TheVariants as kinds
 use Rattle.fp_tech.specs.Book.{place_of}
 use Rattle.fp_netlist.specs.Netlist.{Cell, Netlist, cell_names}
 use Rattle.fp_contest_in.specs.Text.{ConnText, NetText, net_name_list, conn_count}
-use Rattle.fp_contest_in.specs.Grammar.{Keyword, Named, Numbers, ranged, has_pin, IsNew, IsPath, IsNetPin, IsNet, IsNewNet, AreNets, most_conns}
+use Rattle.fp_contest_in.specs.Grammar.{has_pin, IsPath, IsNetPin, IsNewNet, AreNets, most_conns}
 use Rattle.fp_contest_in.specs.Statements.{new_name_next, path_of, path_at, known_pin, net_pin_next, net_next, nets_next}
 use Rattle.fp_contest_in.specs.Growing.{conn_item, net_item}
 use Rattle.fp_contest_in.proofs.Taken.{keyword_ok, keyword_again, number_ok, number_again, count_is, spells_as}

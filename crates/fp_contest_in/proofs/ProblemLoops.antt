@@ -1,12 +1,12 @@
 -- The loops that read instances, nets and their connections into a problem, turn by turn.
-use Rattle.std.proofs.Common.{◌≡◌, ℕ, ◌+◌, ◌<◌, ◌≤◌, List, [], ◌∷◌, ◌++◌, length, map, Result, Ok, Err, refl, sym, ap, subst, ◌∙◌, arith, zero-add}
+use Rattle.std.proofs.Common.{◌≡◌, ℕ, ◌+◌, ◌<◌, List, [], ◌++◌, length, map, Ok, refl, sym, ap, subst, ◌∙◌, arith, zero-add}
 use Rattle.std.proofs.lemmas.List.{length-append, length-map}
-use Rattle.fp_text.specs.Reading.{Left, Read, GivesFault, many_next}
+use Rattle.fp_text.specs.Reading.{Left, Read, GivesFault}
 use Rattle.fp_text.specs.declared.fault.TextFault.{TextFault}
 use Rattle.fp_tech.specs.Plan.{Plan}
 use Rattle.fp_netlist.specs.declared.problem.Conn.{Conn}
 use Rattle.fp_netlist.specs.Netlist.{Cell, Netlist, cell_names}
-use Rattle.fp_contest_in.specs.Text.{InstText, ConnText, NetText, inst_name_list, net_name_list, conn_count, with_inst_text, with_inst_texts, with_conn_text, with_conn_texts, with_net_text, with_net_texts}
+use Rattle.fp_contest_in.specs.Text.{InstText, ConnText, NetText, inst_name_list, net_name_list, conn_count, with_inst_text, with_conn_text, with_net_text}
 use Rattle.fp_contest_in.specs.ProblemLaws.{cell_of, insts_added, conns_added, plan-with_inst_texts, cell_names-with_inst_texts, plan-with_net_texts, cells-with_net_texts, nets-with_net_texts, conns-with_net_texts}
 use Rattle.fp_contest_in.specs.Statements.{inst_next, net_pin_next, net_next}
 use Rattle.fp_contest_in.specs.Growing.{inst_item, conn_item, net_item}

@@ -1,7 +1,7 @@
 -- From what was read to the netlist that it describes.
 use Rattle.std.proofs.Common.{◌≡◌, ℕ, List, [], Result, Ok, Err, refl, sym, ap, subst, ◌∙◌}
 use Rattle.std.specs.Prelude.{IfOk}
-use Rattle.fp_text.specs.Reading.{Left, Read, Fault, fault, end_next, GivesFault, Ends}
+use Rattle.fp_text.specs.Reading.{Left, fault, end_next, GivesFault, Ends}
 use Rattle.fp_text.specs.declared.fault.TextFault.{TextFault}
 use Rattle.fp_text.specs.declared.fault.TextFault.TheVariants.{Wrong, Memory}
 use Rattle.fp_tech.specs.Plan.{Plan}
@@ -82,8 +82,7 @@ pub all_read : (l mid : Left) (plan : Plan) (old new : Netlist) → FrontRead l 
 unfolding problem_next
 all_read l mid plan old new front is cells =
     let same : old.plan ≡ plan_of front.0 = ap (λ (p : Netlist). p.plan) is ∙ front.2 in
-    let read : cells_next (plan_of front.0) mid ≡ Ok (cells.0, cells.1) = ap (λ (q : Plan). cells_next q mid) (sym same) ∙ cells.2 in
-    (
+    let read : cells_next (plan_of front.0) mid ≡ Ok (cells.0, cells.1) = ap (λ (q : Plan). cells_next q mid) (sym same) ∙ cells.2 in (
       record front.0 { insts = cells.0; nets = cells.1 },
       rw (front.1, read) refl,
       cells.3 ∙ ap (λ (q : Plan). with_net_texts (with_inst_texts (no_cells q) cells.0) cells.1) same,

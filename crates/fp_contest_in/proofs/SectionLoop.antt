@@ -1,10 +1,9 @@
 -- The loop that reads the sections, turn by turn.
-use Rattle.std.proofs.Common.{◌≡◌, ℕ, zero, suc, ◌+◌, ◌-◌, ◌<◌, ◌≤◌, Bool, true, List, [], ◌∷◌, Result, Ok, Err, refl, sym, ap, subst, ◌∙◌, arith}
-use Rattle.std.specs.Prelude.{IfSome, map}
+use Rattle.std.proofs.Common.{◌≡◌, ℕ, suc, ◌+◌, ◌-◌, ◌<◌, ◌≤◌, true, List, [], ◌∷◌, Ok, refl, sym, ap, subst, ◌∙◌, arith}
 use Rattle.fp_base.specs.declared.ids.Die.TheVariants.{Top, Bottom}
 use Rattle.fp_contest_in.specs.declared.section.Section.{Section}
 use Rattle.fp_contest_in.specs.declared.section.Section.TheVariants.{DieSize, MaxUtil, Rows, Tech, TerminalSize, TerminalSpacing}
-use Rattle.fp_text.specs.Reading.{Left, Read, Fault, fault, GivesFault}
+use Rattle.fp_text.specs.Reading.{Left, Read, fault, GivesFault}
 use Rattle.fp_text.specs.declared.fault.TextFault.{TextFault}
 use Rattle.fp_text.specs.declared.fault.TextFault.TheVariants.{Wrong, Memory}
 use Rattle.fp_contest_in.specs.declared.section.Found.{Found}
@@ -13,7 +12,7 @@ use Rattle.fp_contest_in.specs.Grammar.{section_number}
 use Rattle.fp_contest_in.specs.Statements.{section_next, sections_next, none_found, has_section, found_count, count_true, bits}
 use Rattle.fp_contest_in.proofs.Bits.{has_bit, all_set, number_small}
 use Rattle.fp_contest_in.proofs.SectionsAgree.{sections_ok, none_read}
-use Rattle.fp_contest_in.specs.Ranges.{AreInRange, IsDieInRange, IsComplete, IsCompleteDie}
+use Rattle.fp_contest_in.specs.Ranges.{AreInRange, IsComplete}
 
 -- the sections so far, and what is still read
 pub record SectionsSoFar (techs : ℕ) (names : List (List ℕ)) (i : ℕ) (found : Found) (l : Left) (total : Read Found) : Type 0 where

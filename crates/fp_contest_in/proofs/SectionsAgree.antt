@@ -1,13 +1,12 @@
 -- The nine sections: what is read is in the grammar, and what is in the grammar is read.
-use Rattle.std.proofs.Common.{◌≡◌, ℕ, zero, suc, ◌+◌, ◌^◌, ◌<◌, ◌≤◌, Bool, true, false, cond, eqb, List, [], ◌∷◌, ◌++◌, length, map, Option, Some, None, Result, Ok, Err, refl, sym, ap, subst, ◌∙◌, arith}
-use Rattle.std.specs.Prelude.{is_some, unwrap_or}
+use Rattle.std.proofs.Common.{◌≡◌, ℕ, zero, suc, ◌+◌, Bool, true, false, cond, eqb, List, [], ◌∷◌, ◌++◌, length, Option, Some, None, Ok, refl, sym, ap, subst, ◌∙◌, arith}
 use Rattle.std.specs.Str.{bytes_eq}
 use Rattle.std.proofs.lemmas.Slice.Eq.{bytes_eq-Decides}
 use Rattle.std.proofs.lemmas.Bool.{eq-eqb}
 use Rattle.fp_base.specs.declared.ids.Die.TheVariants.{Top, Bottom}
 use Rattle.fp_base.specs.declared.ids.TechId.{TechId}
 use Rattle.fp_text.specs.Words.{Word}
-use Rattle.fp_text.specs.Reading.{Left, Read, Fault, fault, ◌>>=◌, word_next}
+use Rattle.fp_text.specs.Reading.{Left, word_next}
 use Rattle.fp_text.specs.ReadingLaws.{left_of, bind_ok, cond_not, ok_is, word_ok, word_again, Each}
 use Rattle.fp_text.specs.declared.fault.Kind.TheVariants as kinds
 use Rattle.fp_tech.specs.declared.dies.Frame.{Frame}
@@ -17,11 +16,11 @@ use Rattle.fp_contest_in.specs.declared.section.RowsFound.{RowsFound}
 use Rattle.fp_contest_in.specs.declared.section.Found.{Found}
 use Rattle.fp_contest_in.specs.declared.section.Setup.{Setup}
 use Rattle.fp_contest_in.specs.Text.{TechText, tech_name_list}
-use Rattle.fp_contest_in.specs.Grammar.{Keyword, Numbers, ranged, any_number, most_number, keyword_of, HasFields, NamesTech, IsSection, IsNewSection, section_number, is_in}
-use Rattle.fp_contest_in.specs.Statements.{section_of, new_section, fields_next, section_next, sections_next, has_section, none_found, bits, count_true, found_count, setup_of, no_frame, no_rows}
+use Rattle.fp_contest_in.specs.Grammar.{Numbers, ranged, any_number, most_number, keyword_of, HasFields, NamesTech, IsSection, IsNewSection, section_number, is_in}
+use Rattle.fp_contest_in.specs.Statements.{section_of, new_section, section_next, sections_next, has_section, none_found, bits, count_true, found_count, setup_of, no_frame, no_rows}
 use Rattle.fp_contest_in.proofs.Bits.{bit_at, with_bit, bit_at-with_bit, count_true-with_bit, has_bit, number_small, is_in-push}
 use Rattle.fp_contest_in.proofs.Names.{AreNew}
-use Rattle.fp_contest_in.proofs.Fields.{FrameFields, RowsFields, Kept, kept_is, Keeps, keeps_refl, keeps_then, FieldsTaken, fields_ok}
+use Rattle.fp_contest_in.proofs.Fields.{FrameFields, RowsFields, kept_is, Keeps, keeps_refl, keeps_then, fields_ok}
 use Rattle.fp_contest_in.proofs.FieldsAgain.{Agrees, FieldsRead, fields_again}
 
 -- ---- keywords

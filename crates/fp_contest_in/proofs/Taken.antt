@@ -1,8 +1,8 @@
 -- What a reading step that did not fail says of the words that it took, and back, in the words of the grammar.
-use Rattle.std.proofs.Common.{◌≡◌, ℕ, ◌^◌, ◌≤◌, Bool, true, false, List, [], ◌∷◌, ◌++◌, length, Result, Ok, Err, refl, sym, ap, subst, ◌∙◌, arith}
+use Rattle.std.proofs.Common.{◌≡◌, ℕ, ◌^◌, ◌≤◌, List, ◌∷◌, length, Ok, refl, sym, ap, subst, ◌∙◌, arith}
 use Rattle.fp_text.specs.Words.{Word}
-use Rattle.fp_text.specs.Numbers.{is_name, Spells}
-use Rattle.fp_text.specs.Reading.{Left, Fault, keyword_next, name_next, number_next}
+use Rattle.fp_text.specs.Numbers.{Spells}
+use Rattle.fp_text.specs.Reading.{Left, keyword_next, name_next, number_next}
 use Rattle.fp_text.specs.ReadingLaws as laws
 use Rattle.fp_text.specs.ReadingLaws.{left_of}
 use Rattle.fp_text.specs.declared.fault.Kind.{Kind}

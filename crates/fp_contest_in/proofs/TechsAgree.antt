@@ -1,15 +1,14 @@
 -- Technologies: what is read is in the grammar, and what is in the grammar is read.
-use Rattle.std.proofs.Common.{◌≡◌, ℕ, zero, suc, ◌+◌, ◌^◌, ◌<◌, ◌≤◌, Bool, true, false, cond, List, [], ◌∷◌, ◌++◌, length, map, Result, Ok, Err, refl, sym, ap, subst, ◌∙◌, arith}
+use Rattle.std.proofs.Common.{◌≡◌, ℕ, false, List, [], ◌∷◌, length, Ok, refl, sym, ap, subst, ◌∙◌, arith}
 use Rattle.std.specs.Prelude.{codes}
 use Rattle.fp_text.specs.Words.{Word}
-use Rattle.fp_text.specs.Numbers.{is_name, Spells}
-use Rattle.fp_text.specs.Reading.{Left, Read, Fault, fault, ◌>>=◌, keyword_next, name_next, number_next, many_next}
+use Rattle.fp_text.specs.Numbers.{Spells}
+use Rattle.fp_text.specs.Reading.{Left, Read, keyword_next, name_next, number_next, many_next}
 use Rattle.fp_text.specs.ReadingLaws.{left_of, bind_ok, cond_not, ok_is, Each, many_ok, many_again}
-use Rattle.fp_text.specs.declared.fault.Kind.{Kind}
 use Rattle.fp_text.specs.declared.fault.Kind.TheVariants as kinds
 use Rattle.fp_tech.specs.Book.{Pin, is_among}
 use Rattle.fp_contest_in.specs.Text.{LibText, TechText, pin_name_list, lib_name_list, tech_name_list}
-use Rattle.fp_contest_in.specs.Grammar.{Keyword, Named, Numbers, Ranged, IsNew, IsNewPin, IsNewLib, IsNewTech, any_number, ranged, most_number, IsPin, IsLib, IsTech, AreTechs}
+use Rattle.fp_contest_in.specs.Grammar.{Named, Numbers, IsNewPin, IsNewLib, IsNewTech, ranged, most_number, AreTechs}
 use Rattle.fp_contest_in.specs.Statements.{new_name_next, pin_next, sizes_next, lib_next, tech_next, techs_next}
 use Rattle.fp_contest_in.specs.Growing.{pin_item, lib_item, tech_item}
 use Rattle.fp_contest_in.proofs.Taken.{keyword_ok, keyword_again, name_ok, name_again, number_ok, number_again, count_is, spells_as}

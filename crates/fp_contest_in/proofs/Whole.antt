@@ -1,20 +1,18 @@
 -- The whole file: what is read is in the grammar, and what is in the grammar is read.
-use Rattle.std.proofs.Common.{◌≡◌, ℕ, zero, suc, ◌+◌, ◌^◌, ◌<◌, ◌≤◌, Bool, true, false, cond, List, [], ◌∷◌, ◌++◌, length, map, Option, Some, None, Result, Ok, Err, refl, sym, ap, subst, ◌∙◌, arith}
+use Rattle.std.proofs.Common.{◌≡◌, ℕ, true, cond, List, [], ◌∷◌, ◌++◌, Ok, refl, sym, ap, subst, ◌∙◌, arith}
 use Rattle.std.proofs.lemmas.List.{map_push}
 use Rattle.fp_text.specs.Words.{Word, words_of}
-use Rattle.fp_base.specs.declared.ids.Die.TheVariants.{Top, Bottom}
-use Rattle.fp_text.specs.Reading.{Left, Read, Fault, fault, whole, ◌>>=◌, end_next}
+use Rattle.fp_text.specs.Reading.{Left, fault, whole, end_next}
 use Rattle.fp_text.specs.ReadingLaws.{left_of, bind_ok, cond_ok, ok_is, end_ok, end_again, Each}
 use Rattle.fp_text.specs.declared.fault.Kind.TheVariants as kinds
 use Rattle.fp_tech.specs.Plan.{Plan, rows_lie}
 use Rattle.fp_netlist.specs.Netlist.{no_cells}
 use Rattle.fp_contest_in.specs.declared.section.Section.{Section}
-use Rattle.fp_contest_in.specs.declared.section.Section.TheVariants.{DieSize, MaxUtil, Rows, Tech, TerminalSize, TerminalSpacing}
 use Rattle.fp_contest_in.specs.declared.section.Found.{Found}
 use Rattle.fp_contest_in.specs.declared.section.Setup.{Setup}
 use Rattle.fp_contest_in.specs.Text.{TechText, InstText, NetText, ProblemText, tech_name_list, inst_name_list, plan_of, with_inst_texts, cells_of}
 use Rattle.fp_contest_in.specs.ProblemLaws.{cell_names-with_inst_texts}
-use Rattle.fp_contest_in.specs.Grammar.{AreTechs, AreSections, AreInsts, AreNets, IsProblem, IsNewTech, IsNewInst, IsNewSection, section_number, is_in, Reads}
+use Rattle.fp_contest_in.specs.Grammar.{AreTechs, AreSections, AreInsts, AreNets, IsProblem, IsNewTech, IsNewInst, IsNewSection, section_number, Reads}
 use Rattle.fp_contest_in.specs.Statements.{techs_next, sections_next, none_found, setup_of, rows_of, setup_checked, front_next, insts_next, nets_next, cells_next, problem_next, problem_of, has_section, found_count, count_true, bits}
 use Rattle.fp_contest_in.proofs.TechsAgree.{techs_ok, techs_again}
 use Rattle.fp_contest_in.proofs.InstsAgree.{insts_ok, insts_again}

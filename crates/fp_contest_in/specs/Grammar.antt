@@ -6,7 +6,6 @@ use Rattle.fp_base.specs.declared.ids.Die.TheVariants.{Top, Bottom}
 use Rattle.fp_text.specs.Words.{Word, words_of}
 use Rattle.fp_text.specs.Numbers.{is_name, Spells}
 use Rattle.fp_text.specs.ReadingLaws.{Each}
-use Rattle.fp_tech.specs.declared.dies.Frame.{Frame}
 use Rattle.fp_tech.specs.declared.dies.DieSpec.{DieSpec}
 use Rattle.fp_tech.specs.Book.{Pin, is_among, has_name}
 use Rattle.fp_tech.specs.Plan.{Plan, rows_lie}

@@ -1,5 +1,5 @@
 -- Reading into a book or a netlist: what is read is added to it.
-use Rattle.std.specs.Prelude.{◌≡◌, ℕ, List, Bool, Result, Ok, Err}
+use Rattle.std.specs.Prelude.{◌≡◌, ℕ, List, Result, Ok, Err}
 use Rattle.fp_text.specs.Reading.{Left, Read, GivesFault}
 use Rattle.fp_text.specs.declared.fault.TextFault.{TextFault}
 use Rattle.fp_tech.specs.Book.{Pin, Book, has_name, is_among}

@@ -1,18 +1,15 @@
 -- The input file read from left to right, statement by statement, up to its first fault.
-use Rattle.std.specs.Prelude.{◌≡◌, ℕ, zero, suc, ◌+◌, ◌-◌, ◌^◌, Bool, true, false, ◌&&◌, ◌==◌, if◌then◌else◌, List, [], ◌∷◌, Option, Some, None, is_some, unwrap_or, Result, Ok, Err, codes}
+use Rattle.std.specs.Prelude.{◌≡◌, ℕ, zero, suc, ◌+◌, ◌-◌, ◌^◌, Bool, ◌&&◌, ◌==◌, if◌then◌else◌, List, [], ◌∷◌, Option, Some, None, is_some, unwrap_or, Result, Ok, Err, codes}
 use Rattle.std.specs.Str.{bytes_eq}
 use Rattle.fp_base.specs.declared.ids.Die.{Die}
 use Rattle.fp_base.specs.declared.ids.Die.TheVariants.{Top, Bottom}
 use Rattle.fp_base.specs.declared.ids.TechId.{TechId}
-use Rattle.fp_text.specs.Words.{Word}
 use Rattle.fp_text.specs.Numbers.{is_name}
 use Rattle.fp_text.specs.Reading.{Left, Read, Fault, fault, whole, ◌>>=◌, word_next, keyword_next, name_next, number_next, end_next, many_next, GivesFault}
-use Rattle.fp_text.specs.declared.fault.Kind.{Kind}
 use Rattle.fp_text.specs.declared.fault.Kind.TheVariants as kinds
 use Rattle.fp_text.specs.declared.fault.TextFault.{TextFault}
 use Rattle.fp_tech.specs.declared.dies.Frame.{Frame}
 use Rattle.fp_tech.specs.declared.dies.DieSpec.{DieSpec}
-use Rattle.fp_tech.specs.declared.dies.TermSpec.{TermSpec}
 use Rattle.fp_tech.specs.Book.{Pin, is_among, place_of}
 use Rattle.fp_tech.specs.Plan.{Plan, rows_lie}
 use Rattle.fp_contest_in.specs.declared.section.Section.{Section}

@@ -1,6 +1,6 @@
 //! Reading the instances into a builder.
 
-ghost use Rattle.std.specs.Prelude.{◌≡◌, ◌<◌, ◌≤◌, ◌^◌, [], length, true, false, IfOk, IfSome, MatchOption};
+ghost use Rattle.std.specs.Prelude.{◌≡◌, ◌<◌, ◌≤◌, ◌^◌, [], length, true, false, IfOk, IfSome, is_some};
 ghost use Rattle.fp_text.specs.Reading.{Gives, many_next};
 ghost use Rattle.fp_tech.specs.Book.{is_among, has};
 ghost use Rattle.fp_tech.specs.Plan.{spec_of};
@@ -30,8 +30,8 @@ fn is_in(dies: &Dies, lib: LibId, die: Die) -> bool
 
 /// The library cell of that name, where the technologies of both dies have it.
 fn lib_named(dies: &Dies, name: &[u8]) -> Option<LibId>
-    ensures none { MatchOption result (has_lib dies.now name.now ≡ false) (λ lib. has_lib dies.now name.now ≡ true) }
-    ensures some { IfSome result (λ lib. IsLibOf dies.now name.now lib.0) }
+    ensures exact { is_some result ≡ has_lib dies.now name.now }
+    ensures lib { IfSome result (λ lib. IsLibOf dies.now name.now lib.0) }
 {
     let lib = dies.book().lib_named(name)?;
     if is_in(dies, lib, Die::Top) && is_in(dies, lib, Die::Bottom) {

@@ -73,7 +73,10 @@ fn tells_the_first_fault(rt: HostRuntime) -> Result<(), Fail> {
     ] {
         let text = format!(in rt.alloc(); "{FRONT}{tail}")?;
         let fault = TextFault::Wrong { at, kind };
-        assert!(&rt; matches!(read_problem(rt.alloc(), text.as_bytes()), Err(f) if f == fault), "{tail}");
+        assert!(&rt;
+            matches!(read_problem(rt.alloc(), text.as_bytes()), Err(f) if f == fault),
+            "{tail}"
+        );
     }
     Ok(())
 }
@@ -89,7 +92,10 @@ fn tells_the_first_fault_of_nets(rt: HostRuntime) -> Result<(), Fail> {
     ] {
         let text = format!(in rt.alloc(); "{FRONT}{INSTS}{NETS}{tail}")?;
         let fault = TextFault::Wrong { at, kind };
-        assert!(&rt; matches!(read_problem(rt.alloc(), text.as_bytes()), Err(f) if f == fault), "{tail}");
+        assert!(&rt;
+            matches!(read_problem(rt.alloc(), text.as_bytes()), Err(f) if f == fault),
+            "{tail}"
+        );
     }
     Ok(())
 }

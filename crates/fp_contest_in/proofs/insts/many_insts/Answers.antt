@@ -12,8 +12,11 @@ loop-init c = counted_none with_inst_text (inst_item c.args.builder.now.plan) c.
 
 pub next_inst-requires : goal.next_inst-requires
 next_inst-requires c =
-    omega (arith, insts_room c.args.count c.loop.counter c.args.builder.now c.loop.builder c.loop.tokens
-    (many_next (inst_item c.args.builder.now.plan) c.args.count [] c.args.tokens.now) c.requires.none c.loop.invariant)
+    omega (
+      arith,
+      insts_room c.args.count c.loop.counter c.args.builder.now c.loop.builder c.loop.tokens
+          (many_next (inst_item c.args.builder.now.plan) c.args.count [] c.args.tokens.now) c.requires.none c.loop.invariant,
+    )
 
 pub returns-in_err-next_inst : goal.returns-in_err-next_inst
 returns-in_err-next_inst c =

@@ -12,13 +12,21 @@ loop-init c = counted_none (with_conn_text c.args.net.0) (conn_item c.args.build
 
 pub next_conn-requires-clause-net : goal.next_conn-requires-clause-net
 next_conn-requires-clause-net c =
-    omega (arith, c.requires.net, ap (λ (names : List (List ℕ)). length names) (conns_nets c.args.net.0 c.args.count c.loop.counter c.args.builder.now c.loop.builder c.loop.tokens
-    (many_next (conn_item c.args.builder.now) c.args.count [] c.args.tokens.now) c.loop.invariant))
+    omega (
+      arith,
+      c.requires.net,
+      ap (λ (names : List (List ℕ)). length names) (conns_nets c.args.net.0 c.args.count c.loop.counter c.args.builder.now c.loop.builder c.loop.tokens
+          (many_next (conn_item c.args.builder.now) c.args.count [] c.args.tokens.now) c.loop.invariant),
+    )
 
 pub next_conn-requires-clause-room : goal.next_conn-requires-clause-room
 next_conn-requires-clause-room c =
-    omega (arith, c.requires.room, conns_room c.args.net.0 c.args.count c.loop.counter c.args.builder.now c.loop.builder c.loop.tokens
-    (many_next (conn_item c.args.builder.now) c.args.count [] c.args.tokens.now) c.loop.invariant)
+    omega (
+      arith,
+      c.requires.room,
+      conns_room c.args.net.0 c.args.count c.loop.counter c.args.builder.now c.loop.builder c.loop.tokens
+          (many_next (conn_item c.args.builder.now) c.args.count [] c.args.tokens.now) c.loop.invariant,
+    )
 
 pub returns-in_err-next_conn : goal.returns-in_err-next_conn
 returns-in_err-next_conn c =

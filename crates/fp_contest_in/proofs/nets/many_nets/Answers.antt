@@ -12,8 +12,11 @@ loop-init c = counted_none with_net_text (net_item c.args.builder.now) c.args.co
 
 pub next_net-requires : goal.next_net-requires
 next_net-requires c =
-    omega (arith, nets_room c.args.count c.loop.counter c.args.builder.now c.loop.builder c.loop.tokens
-    (many_next (net_item c.args.builder.now) c.args.count [] c.args.tokens.now) c.requires.none c.loop.invariant)
+    omega (
+      arith,
+      nets_room c.args.count c.loop.counter c.args.builder.now c.loop.builder c.loop.tokens
+          (many_next (net_item c.args.builder.now) c.args.count [] c.args.tokens.now) c.requires.none c.loop.invariant,
+    )
 
 pub returns-in_err-next_net : goal.returns-in_err-next_net
 returns-in_err-next_net c =

@@ -1,4 +1,4 @@
-use Rattle.std.proofs.Common.{sym, ◌∙◌, ap, subst}
+use Rattle.std.proofs.Common.{subst}
 use Rattle.fp_contest_in.specs.Statements.{problem_next, GivesProblem}
 use Rattle.fp_contest_in.proofs.Problems.{gives_reads, gives_only}
 use Rattle.fp_contest_in.proofs.reading.read_problem.Goals as goal

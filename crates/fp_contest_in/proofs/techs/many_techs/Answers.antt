@@ -12,8 +12,11 @@ loop-init c = counted_none with_tech_text tech_item c.args.count c.args.book.now
 
 pub next_tech-requires : goal.next_tech-requires
 next_tech-requires c =
-    omega (arith, techs_room c.args.count c.loop.counter c.args.book.now c.loop.book c.loop.tokens
-    (many_next tech_item c.args.count [] c.args.tokens.now) c.requires.none c.loop.invariant)
+    omega (
+      arith,
+      techs_room c.args.count c.loop.counter c.args.book.now c.loop.book c.loop.tokens
+          (many_next tech_item c.args.count [] c.args.tokens.now) c.requires.none c.loop.invariant,
+    )
 
 pub returns-in_err-next_tech : goal.returns-in_err-next_tech
 returns-in_err-next_tech c =

@@ -11,8 +11,11 @@ loop-init c = counted_none (add_pin c.args.tech.0 c.args.lib.0) pin_item c.args.
 
 pub next_pin-requires-clause-room : goal.next_pin-requires-clause-room
 next_pin-requires-clause-room c =
-    omega (arith, pins_room c.args.tech.0 c.args.lib.0 c.args.count c.loop.counter c.args.book.now c.loop.book c.loop.tokens
-    (many_next pin_item c.args.count [] c.args.tokens.now) c.requires.there c.requires.none c.loop.invariant)
+    omega (
+      arith,
+      pins_room c.args.tech.0 c.args.lib.0 c.args.count c.loop.counter c.args.book.now c.loop.book c.loop.tokens
+          (many_next pin_item c.args.count [] c.args.tokens.now) c.requires.there c.requires.none c.loop.invariant,
+    )
 
 pub next_pin-requires-clause-there : goal.next_pin-requires-clause-there
 next_pin-requires-clause-there c =
