@@ -8,9 +8,9 @@ use Rattle.fp_tech.specs.Plan.{Plan}
 use Rattle.fp_netlist.specs.Netlist.{Netlist, no_cells}
 use Rattle.fp_contest_in.specs.Text.{InstText, NetText, ProblemText, plan_of, with_inst_texts, with_net_texts, netlist_of}
 use Rattle.fp_contest_in.specs.Grammar.{Reads}
-use Rattle.fp_contest_in.specs.Statements.{front_next, insts_next, nets_next, cells_next, problem_next, problem_of, GivesProblem}
+use Rattle.fp_contest_in.specs.Statements.{front_next, insts_next, nets_next, netlist_next, problem_next, problem_of, GivesProblem}
 use Rattle.fp_contest_in.specs.ProblemLaws.{nets-with_inst_texts, conns-with_inst_texts}
-use Rattle.fp_contest_in.specs.Given.{GivesCells}
+use Rattle.fp_contest_in.specs.Given.{GivesNetlist}
 use Rattle.fp_contest_in.proofs.Whole.{read_is_in, is_in_read}
 
 -- ---- the instances, the nets and the end
@@ -29,8 +29,8 @@ still_none old new l after is insts =
       ap (λ (q : Netlist). q.conns) insts.2 ∙ conns-with_inst_texts old insts.0 ∙ none.2,
     )
 
-pub insts_fail : (e : TextFault) (plan : Plan) (l : Left) → GivesFault e (insts_next plan l) → GivesFault e (cells_next plan l)
-unfolding cells_next
+pub insts_fail : (e : TextFault) (plan : Plan) (l : Left) → GivesFault e (insts_next plan l) → GivesFault e (netlist_next plan l)
+unfolding netlist_next
 insts_fail Memory plan l fails = tt
 insts_fail (Wrong at kind) plan l fails = rw fails refl
 
@@ -38,21 +38,21 @@ insts_fail (Wrong at kind) plan l fails = rw fails refl
 insts_value : (old new : Netlist) (l after : Left) → old ≡ no_cells old.plan → (insts : InstsRead old new l after) → new ≡ with_inst_texts (no_cells old.plan) insts.0
 insts_value old new l after is insts = insts.2 ∙ ap (λ (p : Netlist). with_inst_texts p insts.0) is
 
-pub nets_fail : (e : TextFault) (old new : Netlist) (l mid : Left) → old ≡ no_cells old.plan → InstsRead old new l mid → GivesFault e (nets_next new mid) → GivesFault e (cells_next old.plan l)
-unfolding cells_next
+pub nets_fail : (e : TextFault) (old new : Netlist) (l mid : Left) → old ≡ no_cells old.plan → InstsRead old new l mid → GivesFault e (nets_next new mid) → GivesFault e (netlist_next old.plan l)
+unfolding netlist_next
 nets_fail Memory old new l mid is insts fails = tt
 nets_fail (Wrong at kind) old new l mid is insts fails =
     let gone : nets_next (with_inst_texts (no_cells old.plan) insts.0) mid ≡ fault at kind = ap (λ (p : Netlist). nets_next p mid) (sym (insts_value old new l mid is insts)) ∙ fails in
     rw (insts.1, gone) refl
 
-pub cells_done : {U : Type 0} (result : Result U TextFault) (old mid new : Netlist) (l l_2 l_3 after : Left) → old ≡ no_cells old.plan → InstsRead old mid l l_2
-    → (nets : List NetText) × (nets_next mid l_2 ≡ Ok (nets, l_3)) × (new ≡ with_net_texts mid nets) → Ends result after (end_next l_3) → GivesCells old.plan result new (cells_next old.plan l)
-unfolding cells_next
-cells_done (Err Memory) old mid new l l_2 l_3 after is insts nets ends = tt
-cells_done (Err (Wrong at kind)) old mid new l l_2 l_3 after is insts nets ends =
+pub netlist_done : {U : Type 0} (result : Result U TextFault) (old mid new : Netlist) (l l_2 l_3 after : Left) → old ≡ no_cells old.plan → InstsRead old mid l l_2
+    → (nets : List NetText) × (nets_next mid l_2 ≡ Ok (nets, l_3)) × (new ≡ with_net_texts mid nets) → Ends result after (end_next l_3) → GivesNetlist old.plan result new (netlist_next old.plan l)
+unfolding netlist_next
+netlist_done (Err Memory) old mid new l l_2 l_3 after is insts nets ends = tt
+netlist_done (Err (Wrong at kind)) old mid new l l_2 l_3 after is insts nets ends =
     let read : nets_next (with_inst_texts (no_cells old.plan) insts.0) l_2 ≡ Ok (nets.0, l_3) = ap (λ (p : Netlist). nets_next p l_2) (sym (insts_value old mid l l_2 is insts)) ∙ nets.1 in
     rw (insts.1, read, ends) refl
-cells_done (Ok done) old mid new l l_2 l_3 after is insts nets ends =
+netlist_done (Ok done) old mid new l l_2 l_3 after is insts nets ends =
     let value = insts_value old mid l l_2 is insts in
     let read : nets_next (with_inst_texts (no_cells old.plan) insts.0) l_2 ≡ Ok (nets.0, l_3) = ap (λ (p : Netlist). nets_next p l_2) (sym value) ∙ nets.1 in
     (insts.0, nets.0, rw (insts.1, read, ends) refl, nets.2 ∙ ap (λ (p : Netlist). with_net_texts p nets.0) value)
@@ -68,21 +68,21 @@ unfolding problem_next
 front_fails Memory l fails = tt
 front_fails (Wrong at kind) l fails = rw fails refl
 
-pub cells_fail : (e : TextFault) (l mid : Left) (plan : Plan) (old : Netlist) → FrontRead l mid plan → old ≡ no_cells plan → GivesFault e (cells_next old.plan mid) → GivesFault e (problem_next l)
+pub netlist_fails : (e : TextFault) (l mid : Left) (plan : Plan) (old : Netlist) → FrontRead l mid plan → old ≡ no_cells plan → GivesFault e (netlist_next old.plan mid) → GivesFault e (problem_next l)
 unfolding problem_next
-cells_fail Memory l mid plan old front is fails = tt
-cells_fail (Wrong at kind) l mid plan old front is fails =
+netlist_fails Memory l mid plan old front is fails = tt
+netlist_fails (Wrong at kind) l mid plan old front is fails =
     let same : old.plan ≡ plan_of front.0 = ap (λ (p : Netlist). p.plan) is ∙ front.2 in
-    let gone : cells_next (plan_of front.0) mid ≡ fault at kind = ap (λ (q : Plan). cells_next q mid) (sym same) ∙ fails in
+    let gone : netlist_next (plan_of front.0) mid ≡ fault at kind = ap (λ (q : Plan). netlist_next q mid) (sym same) ∙ fails in
     rw (front.1, gone) refl
 
 pub all_read : (l mid : Left) (plan : Plan) (old new : Netlist) → FrontRead l mid plan → old ≡ no_cells plan
-    → (insts : List InstText) × (nets : List NetText) × (cells_next old.plan mid ≡ Ok (insts, nets)) × (new ≡ with_net_texts (with_inst_texts (no_cells old.plan) insts) nets)
+    → (insts : List InstText) × (nets : List NetText) × (netlist_next old.plan mid ≡ Ok (insts, nets)) × (new ≡ with_net_texts (with_inst_texts (no_cells old.plan) insts) nets)
     → (text : ProblemText) × (problem_next l ≡ Ok text) × (new ≡ netlist_of text)
 unfolding problem_next
 all_read l mid plan old new front is cells =
     let same : old.plan ≡ plan_of front.0 = ap (λ (p : Netlist). p.plan) is ∙ front.2 in
-    let read : cells_next (plan_of front.0) mid ≡ Ok (cells.0, cells.1) = ap (λ (q : Plan). cells_next q mid) (sym same) ∙ cells.2 in (
+    let read : netlist_next (plan_of front.0) mid ≡ Ok (cells.0, cells.1) = ap (λ (q : Plan). netlist_next q mid) (sym same) ∙ cells.2 in (
       record front.0 { insts = cells.0; nets = cells.1 },
       rw (front.1, read) refl,
       cells.3 ∙ ap (λ (q : Plan). with_net_texts (with_inst_texts (no_cells q) cells.0) cells.1) same,

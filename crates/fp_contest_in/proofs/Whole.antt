@@ -13,7 +13,7 @@ use Rattle.fp_contest_in.specs.declared.section.Setup.{Setup}
 use Rattle.fp_contest_in.specs.Text.{TechText, InstText, NetText, ProblemText, tech_name_list, inst_name_list, plan_of, with_inst_texts, cells_of}
 use Rattle.fp_contest_in.specs.ProblemLaws.{cell_names-with_inst_texts}
 use Rattle.fp_contest_in.specs.Grammar.{AreTechs, AreSections, AreInsts, AreNets, IsProblem, IsNewTech, IsNewInst, IsNewSection, section_number, Reads}
-use Rattle.fp_contest_in.specs.Statements.{techs_next, sections_next, none_found, setup_of, rows_of, setup_checked, front_next, insts_next, nets_next, cells_next, problem_next, problem_of, has_section, found_count, count_true, bits}
+use Rattle.fp_contest_in.specs.Statements.{techs_next, sections_next, none_found, setup_of, rows_of, setup_checked, front_next, insts_next, nets_next, netlist_next, problem_next, problem_of, has_section, found_count, count_true, bits}
 use Rattle.fp_contest_in.proofs.TechsAgree.{techs_ok, techs_again}
 use Rattle.fp_contest_in.proofs.InstsAgree.{insts_ok, insts_again}
 use Rattle.fp_contest_in.proofs.NetsAgree.{nets_ok, nets_again}
@@ -104,10 +104,10 @@ insts_new plan before [] words rest each = tt
 insts_new plan before (inst ∷ insts) words rest each =
     (each.1.1, subst (λ (names : List (List ℕ)). AreNew names (inst_name_list insts)) (map_push (λ (i : InstText). i.name) before inst) (insts_new plan (before ++ inst ∷ []) insts each.0 rest each.2))
 
-cells_ok : (text : ProblemText) (l : Left) (insts : List InstText) (nets : List NetText) → cells_next (plan_of text) l ≡ Ok (insts, nets)
+netlist_ok : (text : ProblemText) (l : Left) (insts : List InstText) (nets : List NetText) → netlist_next (plan_of text) l ≡ Ok (insts, nets)
     → (mid : List Word) × AreInsts (plan_of text) insts l.words mid × AreNets (with_inst_texts (no_cells (plan_of text)) insts) nets mid []
-unfolding cells_next
-cells_ok text l insts nets e =
+unfolding netlist_next
+netlist_ok text l insts nets e =
     let i = bind_ok (insts_next (plan_of text) l) _ _ e in
     let p = with_inst_texts (no_cells (plan_of text)) i.0.0 in
     let n = bind_ok (nets_next p i.0.1) _ _ i.2 in
@@ -119,9 +119,9 @@ cells_ok text l insts nets e =
     subst (λ (c : List InstText × List NetText). (mid : List Word) × AreInsts (plan_of text) c.0 l.words mid × AreNets (with_inst_texts (no_cells (plan_of text)) c.0) c.1 mid []) same
     (i.0.1.words, are_insts.0, subst (λ (ws : List Word). AreNets p n.0.0 i.0.1.words ws) no_more.0 are_nets.0)
 
-cells_again : (text : ProblemText) (l : Left) (mid : List Word) → AreInsts (plan_of text) text.insts l.words mid → AreNets (cells_of text) text.nets mid [] → cells_next (plan_of text) l ≡ Ok (text.insts, text.nets)
-unfolding cells_next
-cells_again text l mid are_insts are_nets =
+netlist_again : (text : ProblemText) (l : Left) (mid : List Word) → AreInsts (plan_of text) text.insts l.words mid → AreNets (cells_of text) text.nets mid [] → netlist_next (plan_of text) l ≡ Ok (text.insts, text.nets)
+unfolding netlist_next
+netlist_again text l mid are_insts are_nets =
     let insts = insts_again (plan_of text) l text.insts mid are_insts in
     let apart = subst (AreNew []) (sym (cell_names-with_inst_texts (no_cells (plan_of text)) text.insts))
     (insts_new (plan_of text) [] text.insts are_insts.after_count mid are_insts.items) in
@@ -132,9 +132,9 @@ pub read_is_in : (bytes : List ℕ) (text : ProblemText) → problem_of bytes �
 unfolding problem_next
 read_is_in bytes text e =
     let f = bind_ok (front_next (whole bytes)) _ _ e in
-    let c = bind_ok (cells_next (plan_of f.0.0) f.0.1) _ _ f.2 in
+    let c = bind_ok (netlist_next (plan_of f.0.0) f.0.1) _ _ f.2 in
     let front = front_ok (whole bytes) f.0.0 f.0.1 f.1 in
-    let cells = cells_ok f.0.0 f.0.1 c.0.0 c.0.1 c.1 in
+    let cells = netlist_ok f.0.0 f.0.1 c.0.0 c.0.1 c.1 in
     let same = ok_is (record f.0.0 { insts = c.0.0; nets = c.0.1 }) text c.2 in
     subst (λ (t : ProblemText). IsProblem t (words_of bytes)) same (record {
       after_techs = front.after_techs;
@@ -150,5 +150,5 @@ pub is_in_read : (bytes : List ℕ) (text : ProblemText) → Reads bytes text �
 unfolding problem_next
 is_in_read bytes text p =
     let front = front_again (whole bytes) text p.after_techs p.after_sections p.techs p.sections in
-    let cells = cells_again text (left_of (whole bytes) p.after_sections) p.after_instances p.instances p.nets in
+    let cells = netlist_again text (left_of (whole bytes) p.after_sections) p.after_instances p.instances p.nets in
     rw (front, cells) refl

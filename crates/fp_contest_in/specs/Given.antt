@@ -38,6 +38,6 @@ GivesLib plan (Ok lib) left read = (name : List ℕ) × (read ≡ Ok (name, left
 GivesLib plan (Err e) left read = GivesFault e read
 
 -- what the instances and the nets made of a problem without any, or the fault
-abbrev pub GivesCells : {U : Type 0} → Plan → Result U TextFault → Netlist → Result (List InstText × List NetText) Fault → Type 0
-GivesCells plan (Ok done) p read = (insts : List InstText) × (nets : List NetText) × (read ≡ Ok (insts, nets)) × (p ≡ with_net_texts (with_inst_texts (no_cells plan) insts) nets)
-GivesCells plan (Err e) p read = GivesFault e read
+abbrev pub GivesNetlist : {U : Type 0} → Plan → Result U TextFault → Netlist → Result (List InstText × List NetText) Fault → Type 0
+GivesNetlist plan (Ok done) p read = (insts : List InstText) × (nets : List NetText) × (read ≡ Ok (insts, nets)) × (p ≡ with_net_texts (with_inst_texts (no_cells plan) insts) nets)
+GivesNetlist plan (Err e) p read = GivesFault e read

@@ -305,8 +305,8 @@ nets_next p l = do
   many_next (λ nets. net_next p (net_name_list nets) (conn_count nets)) count.0 [] count.1
 
 -- the instances, the nets and the end
-unfoldable pub cells_next : Plan → Left → Result (List InstText × List NetText) Fault
-cells_next plan l = do
+unfoldable pub netlist_next : Plan → Left → Result (List InstText × List NetText) Fault
+netlist_next plan l = do
   insts ← insts_next plan l
   nets ← nets_next (with_inst_texts (no_cells plan) insts.0) insts.1
   end ← end_next nets.1
@@ -316,8 +316,8 @@ cells_next plan l = do
 unfoldable pub problem_next : Left → Result ProblemText Fault
 problem_next l = do
   front ← front_next l
-  cells ← cells_next (plan_of front.0) front.1
-  Ok (record front.0 { insts = cells.0; nets = cells.1 })
+  netlist ← netlist_next (plan_of front.0) front.1
+  Ok (record front.0 { insts = netlist.0; nets = netlist.1 })
 
 -- the problem of a whole file, or its first fault
 abbrev pub problem_of : List ℕ → Result ProblemText Fault

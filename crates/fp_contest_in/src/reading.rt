@@ -5,9 +5,9 @@ ghost use Rattle.fp_text.specs.Reading.{Left};
 ghost use Rattle.fp_netlist.specs.Netlist.{no_cells};
 ghost use Rattle.fp_contest_in.specs.Text.{ProblemText, netlist_of};
 ghost use Rattle.fp_contest_in.specs.Grammar.{Reads};
-ghost use Rattle.fp_contest_in.specs.Statements.{front_next, cells_next, problem_next, setup_checked, problem_of, GivesProblem};
+ghost use Rattle.fp_contest_in.specs.Statements.{front_next, netlist_next, problem_next, setup_checked, problem_of, GivesProblem};
 ghost use Rattle.fp_contest_in.specs.Ranges.{AreInRange, IsComplete};
-ghost use Rattle.fp_contest_in.specs.Given.{GivesSetup, GivesFront, GivesCells};
+ghost use Rattle.fp_contest_in.specs.Given.{GivesSetup, GivesFront, GivesNetlist};
 
 use crate::insts::insts;
 use crate::nets::nets;
@@ -56,9 +56,9 @@ fn front(alloc: Global, tokens: &mut Tokens<'_>) -> Result<Dies, TextFault>
 }
 
 /// Reads the instances, the nets and the end into a problem that has none.
-fn cells(builder: &mut ProblemBuilder, tokens: &mut Tokens<'_>) -> Result<(), TextFault>
+fn netlist(builder: &mut ProblemBuilder, tokens: &mut Tokens<'_>) -> Result<(), TextFault>
     requires { builder.old ≡ no_cells builder.old.plan }
-    ensures { GivesCells builder.old.plan result builder.new (cells_next builder.old.plan tokens.old) }
+    ensures { GivesNetlist builder.old.plan result builder.new (netlist_next builder.old.plan tokens.old) }
 {
     insts(builder, tokens)?;
     nets(builder, tokens)?;
@@ -71,16 +71,17 @@ fn problem(alloc: Global, tokens: &mut Tokens<'_>) -> Result<Problem, TextFault>
 {
     let dies = front(alloc, tokens)?;
     let mut builder = ProblemBuilder::new(alloc, dies);
-    cells(&mut builder, tokens)?;
+    netlist(&mut builder, tokens)?;
     match builder.finish() {
         Ok(problem) => Ok(problem),
         Err(_) => Err(TextFault::Memory),
     }
 }
 
-/// The problem of an input file.
+/// The problem of an input file: its dies, and its cells, nets and connections in file order.
 ///
-/// `Wrong` is the first fault from left to right, by the order in which the kinds are tried at each token.
+/// `Wrong` comes only where the file is not in the grammar: it is the first fault from left to right, by the order in
+/// which the kinds are tried at each token. `Memory` comes where memory was refused.
 pub fn read_problem(alloc: Global, bytes: &[u8]) -> Result<Problem, TextFault>
     // What is read is in the grammar, with its problem.
     ensures reads { IfOk result (λ p. (text : ProblemText) × Reads bytes.now text × (p ≡ netlist_of text)) }

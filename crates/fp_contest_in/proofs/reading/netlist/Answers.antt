@@ -1,6 +1,6 @@
 use Rattle.std.proofs.lemmas.Result.{err_from_is_err_and}
-use Rattle.fp_contest_in.proofs.Problems.{nothing_there, still_none, insts_fail, nets_fail, cells_done}
-use Rattle.fp_contest_in.proofs.reading.cells.Goals as goal
+use Rattle.fp_contest_in.proofs.Problems.{nothing_there, still_none, insts_fail, nets_fail, netlist_done}
+use Rattle.fp_contest_in.proofs.reading.netlist.Goals as goal
 
 pub insts-requires : goal.insts-requires
 insts-requires c = (nothing_there c.args.builder.now c.requires).0
@@ -23,5 +23,5 @@ returns-in_err-nets c =
 
 pub returns : goal.returns
 returns c =
-    cells_done c.end.result c.args.builder.now c.insts.new.builder c.nets.new.builder c.args.tokens.now c.insts.new.tokens c.nets.new.tokens c.end.new.self
+    netlist_done c.end.result c.args.builder.now c.insts.new.builder c.nets.new.builder c.args.tokens.now c.insts.new.tokens c.nets.new.tokens c.end.new.self
     c.requires c.in_ok-insts.ensures c.in_ok-nets.ensures c.end.ensures.ends
