@@ -1,3 +1,3 @@
-pub mod Written
 pub mod Endings
 pub mod Inputs
+pub mod Seeds

@@ -4,4 +4,5 @@ pub mod Report
 pub mod Causes
 pub mod Status
 pub mod Input
+pub mod Seeding
 pub mod Run

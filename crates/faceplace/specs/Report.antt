@@ -1,9 +1,14 @@
--- The texts that the program prints, and the text of an output file.
-use Rattle.std.specs.Prelude.{◌≡◌, ℕ, ◌^◌, ◌<◌, ◌≤◌, List, [], ◌∷◌, ◌++◌, length, Option, Some, None, codes, decimal}
+-- The texts that the program prints.
+use Rattle.std.specs.Prelude.{◌≡◌, ℕ, ◌^◌, ◌<◌, ◌≤◌, List, [], ◌++◌, length, Option, Some, None, unwrap_or, slice_get, codes, decimal}
+use Rattle.fp_base.specs.declared.ids.Die.{Die}
+use Rattle.fp_base.specs.declared.ids.Die.TheVariants.{Top, Bottom}
 use Rattle.fp_text.specs.declared.fault.Kind.{Kind}
 use Rattle.fp_text.specs.declared.fault.Kind.TheVariants.{Ended, Word, Number, Name, Twice, Unknown, Range, Rows, Limit, Trailing}
 use Rattle.fp_text.specs.Reading.{fault}
-use Rattle.fp_contest_in.specs.Text.{ProblemText}
+use Rattle.fp_netlist.specs.Netlist.{Netlist, cell_names}
+use Rattle.fp_score.specs.declared.stop.Stop.{Stop}
+use Rattle.fp_score.specs.declared.stop.Stop.TheVariants.{NoRoom, NoSlots}
+use Rattle.fp_contest_in.specs.Text.{ProblemText, netlist_of}
 use Rattle.fp_contest_in.specs.Grammar.{Reads}
 use Rattle.fp_contest_in.specs.Statements.{problem_of}
 
@@ -26,10 +31,19 @@ HasCause (Some bytes) IsMissing = ⊥
 HasCause (Some bytes) IsLong = most_input < length bytes
 HasCause (Some bytes) (IsWrong at kind) = (length bytes ≤ most_input) × (problem_of bytes ≡ fault at kind) × ((text : ProblemText) → Reads bytes text → ⊥)
 
+-- the bytes are an input file that says this problem
+abbrev pub Says : List ℕ → Netlist → Type 0
+Says bytes p = (text : ProblemText) × Reads bytes text × (p ≡ netlist_of text)
+
 -- what a name holds is an input file that says this problem
-abbrev pub HoldsProblem : Option (List ℕ) → ProblemText → Type 0
-HoldsProblem None text = ⊥
-HoldsProblem (Some bytes) text = (length bytes ≤ most_input) × Reads bytes text
+abbrev pub HoldsProblem : Option (List ℕ) → Netlist → Type 0
+HoldsProblem None p = ⊥
+HoldsProblem (Some bytes) p = (length bytes ≤ most_input) × Says bytes p
+
+-- and no other
+abbrev pub HoldsOnly : Option (List ℕ) → Netlist → Type 0
+HoldsOnly None p = ⊥
+HoldsOnly (Some bytes) p = (length bytes ≤ most_input) × Says bytes p × ((other : Netlist) → Says bytes other → other ≡ p)
 
 abbrev pub kind_text : Kind → List ℕ
 kind_text Ended = codes "ended"
@@ -53,10 +67,20 @@ input_report name IsMissing = codes "input " ++ name ++ codes " 0 missing\n"
 input_report name IsLong = codes "input " ++ name ++ codes " 268435456 long\n"
 input_report name (IsWrong at kind) = codes "input " ++ name ++ codes " " ++ decimal at ++ codes " " ++ kind_text kind ++ codes "\n"
 
--- the seed of a problem without cells and nets, over so many slots
-abbrev pub seed_report : ℕ → List ℕ
-seed_report slots = codes "seed 0 first top cut 0 slots " ++ decimal slots ++ codes "\n"
+abbrev pub die_text : Die → List ℕ
+die_text Top = codes "top"
+die_text Bottom = codes "bottom"
 
--- the output file of a placement without cells and terminals
-abbrev pub no_cells_text : List ℕ
-no_cells_text = codes "TopDiePlacement 0\nBottomDiePlacement 0\nNumTerminals 0\n"
+-- `seed S first D cut K slots M`: the score, the first die, the cut nets and the slots
+abbrev pub seed_report : ℕ → Die → ℕ → ℕ → List ℕ
+seed_report total first cut slots =
+    codes "seed " ++ decimal total ++ codes " first " ++ die_text first ++ codes " cut " ++ decimal cut ++ codes " slots " ++ decimal slots ++ codes "\n"
+
+-- why a first fit stops: `cell NAME` or `slots CUT SLOTS`
+abbrev pub stop_text : Netlist → Stop → List ℕ
+stop_text p (NoRoom cell) = codes "cell " ++ unwrap_or (slice_get (cell_names p) cell.0) []
+stop_text p (NoSlots cut slots) = codes "slots " ++ decimal cut ++ codes " " ++ decimal slots
+
+-- `unfit top STOP bottom STOP`
+abbrev pub unfit_report : Netlist → Stop → Stop → List ℕ
+unfit_report p top_first bottom_first = codes "unfit top " ++ stop_text p top_first ++ codes " bottom " ++ stop_text p bottom_first ++ codes "\n"

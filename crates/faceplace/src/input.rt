@@ -7,7 +7,7 @@ ghost use Rattle.faceplace.specs.Input.{GivesInput};
 use crate::report::Cause;
 use fp_base::Folder;
 use fp_contest_in::read_problem;
-use fp_tech::Dies;
+use fp_netlist::Problem;
 use fp_text::{TextFault, WholeFault, read_whole};
 use std::alloc::Global;
 
@@ -26,7 +26,7 @@ pub enum Stop {
 }
 
 /// The problem of an input file.
-pub fn read_input<F: Folder>(alloc: Global, folder: &mut F, name: &str) -> Result<Dies, Stop>
+pub fn read_input<F: Folder>(alloc: Global, folder: &mut F, name: &str) -> Result<Problem, Stop>
     ensures gives { GivesInput (F.held folder.old) name.now result }
     ensures device { IsErrOf result Stop.Device → Rose (F.faults folder.old) (F.faults folder.new) }
     ensures held { F.held folder.new ≡ F.held folder.old }
@@ -40,7 +40,7 @@ pub fn read_input<F: Folder>(alloc: Global, folder: &mut F, name: &str) -> Resul
         Err(WholeFault::Memory) => return Err(Stop::Memory),
     };
     match read_problem(alloc, &bytes) {
-        Ok(dies) => Ok(dies),
+        Ok(problem) => Ok(problem),
         Err(TextFault::Wrong { at, kind }) => Err(Stop::Refused(Cause::Wrong { at, kind })),
         Err(TextFault::Memory) => Err(Stop::Memory),
     }

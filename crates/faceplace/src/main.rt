@@ -2,10 +2,11 @@
 #![tactic(auto)]
 
 mod input;
-mod output;
+mod refusal;
 mod report;
 mod request;
 mod run;
+mod seed;
 mod status;
 
 use fp_base::{DirFolder, StdoutSink};

@@ -1,9 +1,13 @@
 //! The lines that the program prints.
 
 ghost use Rattle.std.specs.Prelude.{◌≡◌, ◌++◌, IfOk, string_bytes, codes, decimal};
-ghost use Rattle.faceplace.specs.Report.{kind_text, input_report, seed_report};
+ghost use Rattle.fp_score.specs.FirstFitLaws.{IsStopOf};
+ghost use Rattle.faceplace.specs.Report.{die_text, kind_text, input_report, seed_report, stop_text, unfit_report};
 ghost use Rattle.faceplace.specs.Causes.{cause_of};
 
+use fp_base::Die;
+use fp_netlist::Problem;
+use fp_score::Stop;
 use fp_text::Kind;
 use std::alloc::{AllocError, Global};
 
@@ -58,9 +62,67 @@ pub fn input_report(alloc: Global, name: &str, cause: Cause) -> Result<String, A
     }
 }
 
-/// The report of the seed of a problem without cells and nets.
-pub fn seed_report(alloc: Global, slots: u32) -> Result<String, AllocError>
-    ensures { IfOk result (λ report. string_bytes report ≡ seed_report slots) }
+/// A die's name in a report.
+fn die_word(die: Die) -> &'static str
+    ensures { result.now ≡ die_text die }
 {
-    format!(in alloc; "seed 0 first top cut 0 slots {slots}\n")
+    match die {
+        Die::Top => "top",
+        Die::Bottom => "bottom",
+    }
+}
+
+/// `seed S first D cut K slots M`, for a seed that was written: its score, its first die, the cut nets and the slots.
+pub fn seed_report(
+    alloc: Global,
+    total: u64,
+    first: Die,
+    cut: u32,
+    slots: u32,
+) -> Result<String, AllocError>
+    ensures { IfOk result (λ report. string_bytes report ≡ seed_report total first cut slots) }
+{
+    let mut report = format!(in alloc; "seed {total} first ")?;
+    report.push_str(die_word(first))?;
+    write!(report, " cut {cut}")?;
+    write!(report, " slots {slots}")?;
+    report.push_str("\n")?;
+    Ok(report)
+}
+
+/// Why a first fit stops: `cell NAME` or `slots CUT SLOTS`.
+fn stop_report(alloc: Global, problem: &Problem, stop: Stop) -> Result<Vec<u8>, AllocError>
+    requires { IsStopOf problem.now stop }
+    ensures { IfOk result (λ report. report.items ≡ stop_text problem.now stop) }
+{
+    match stop {
+        Stop::NoRoom(cell) => {
+            let mut report = Vec::from_slice(alloc, b"cell ")?;
+            report.extend_from_slice(problem.cell_name(cell))?;
+            Ok(report)
+        }
+        Stop::NoSlots { cut, slots } => {
+            let report = format!(in alloc; "slots {cut} {slots}")?;
+            Ok(report.into_bytes())
+        }
+    }
+}
+
+/// `unfit top STOP bottom STOP`, for a problem of which neither first fit stands.
+pub fn unfit_report(
+    alloc: Global,
+    problem: &Problem,
+    top_first: Stop,
+    bottom_first: Stop,
+) -> Result<Vec<u8>, AllocError>
+    requires top { IsStopOf problem.now top_first }
+    requires bottom { IsStopOf problem.now bottom_first }
+    ensures { IfOk result (λ report. report.items ≡ unfit_report problem.now top_first bottom_first) }
+{
+    let mut report = Vec::from_slice(alloc, b"unfit top ")?;
+    report.extend_from_slice(&stop_report(alloc, problem, top_first)?)?;
+    report.extend_from_slice(b" bottom ")?;
+    report.extend_from_slice(&stop_report(alloc, problem, bottom_first)?)?;
+    report.extend_from_slice(b"\n")?;
+    Ok(report)
 }

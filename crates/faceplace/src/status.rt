@@ -16,6 +16,8 @@ pub enum Status {
     BadWords,
     /// The input file is refused.
     BadInput,
+    /// No first fit of the input stands.
+    Unfit,
     /// A device failed.
     Device,
 }
@@ -30,16 +32,17 @@ impl Status {
             Status::NoMemory => 1,
             Status::BadWords => 2,
             Status::BadInput => 3,
+            Status::Unfit => 4,
             Status::Device => 6,
         }
     }
 }
 
 /// Puts the report of a status, and answers the status, or that of a device where the sink fails.
-pub fn tell<S: Sink>(out: &mut S, report: &str, status: Status) -> Status
+pub fn tell<S: Sink>(out: &mut S, report: &[u8], status: Status) -> Status
     ensures tells { Tells report.now status result (S.written out.old) (S.written out.new) (S.faults out.old) (S.faults out.new) }
 {
-    match out.put(report.as_bytes()) {
+    match out.put(report) {
         Ok(()) => status,
         Err(Failed) => Status::Device,
     }

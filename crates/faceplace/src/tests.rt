@@ -5,40 +5,48 @@ use fp_base::{MemFolder, MemSink};
 use std::alloc::{AllocError, Global};
 use std::test::Fail;
 
-/// An input without instances and nets, line by line.
-const LINES: [&str; 18] = [
-    "NumTechnologies 2",
-    "Tech TA 1",
-    "LibCell MC1 4 10 1",
-    "Pin P1 1 2",
-    "Tech TB 1",
-    "LibCell MC1 5 10 1",
-    "Pin P1 2 3",
-    "DieSize 0 0 20 20",
-    "TopDieMaxUtil 10",
-    "BottomDieMaxUtil 50",
-    "TopDieRows 0 0 20 10 2",
-    "BottomDieRows 0 0 20 10 2",
-    "TopDieTech TA",
-    "BottomDieTech TB",
-    "TerminalSize 2 2",
-    "TerminalSpacing 1",
-    "NumInstances 0",
-    "NumNets 0",
-];
+/// Two cells of one library cell, which the top die's percent keeps apart.
+const SMALL: &str =
+    "NumTechnologies 2\nTech TA 1\nLibCell MC1 4 10 1\nPin P1 1 2\nTech TB 1\nLibCell MC1 5 10 1\nPin P1 2 3\n\
+DieSize 0 0 20 20\nTopDieMaxUtil 10\nBottomDieMaxUtil 50\nTopDieRows 0 0 20 10 2\nBottomDieRows 0 0 20 10 2\nTopDieTech TA\n\
+BottomDieTech TB\nTerminalSize 2 2\nTerminalSpacing 1\nNumInstances 2\nInst C1 MC1\nInst C2 MC1\nNumNets 1\nNet N1 2\nPin C1/P1\n\
+Pin C2/P1\n";
 
-/// No line of the input.
-const NONE: usize = LINES.len();
+/// A high cell that fits the top die alone, behind a cell that fills it.
+const HIGH: &str =
+    "NumTechnologies 1\nTech T 2\nLibCell S 4 10 1\nPin P 0 0\nLibCell H 4 20 1\nPin P 0 0\nDieSize 0 0 20 20\n\
+TopDieMaxUtil 20\nBottomDieMaxUtil 50\nTopDieRows 0 0 20 20 1\nBottomDieRows 0 0 20 10 2\nTopDieTech T\nBottomDieTech T\n\
+TerminalSize 2 2\nTerminalSpacing 1\nNumInstances 2\nInst C1 S\nInst C2 H\nNumNets 1\nNet N1 2\nPin C1/P\nPin C2/P\n";
 
-/// The output file of an input without cells.
-const PLACED: &str = "TopDiePlacement 0\nBottomDiePlacement 0\nNumTerminals 0\n";
+/// The contest's own small case: six cells, three nets, two of them cut.
+const CONTEST: &str =
+    "NumTechnologies 2\nTech TA 2\nLibCell MC1 7 10 1\nPin P1 1 2\nLibCell MC2 9 10 2\nPin P1 3 4\nPin P2 6 5\n\
+Tech TB 2\nLibCell MC1 14 15 1\nPin P1 2 3\nLibCell MC2 12 15 2\nPin P1 4 7\nPin P2 8 9\nDieSize 0 0 30 30\nTopDieMaxUtil 40\n\
+BottomDieMaxUtil 90\nTopDieRows 0 0 30 10 3\nBottomDieRows 0 0 30 15 2\nTopDieTech TA\nBottomDieTech TB\nTerminalSize 6 6\n\
+TerminalSpacing 4\nNumInstances 6\nInst C1 MC1\nInst C2 MC2\nInst C3 MC1\nInst C4 MC2\nInst C5 MC2\nInst C6 MC1\nNumNets 3\n\
+Net N1 3\nPin C1/P1\nPin C2/P1\nPin C6/P1\nNet N2 2\nPin C3/P1\nPin C4/P1\nNet N3 3\nPin C4/P2\nPin C5/P2\nPin C2/P2\n";
 
-/// The input with one line replaced.
-fn with_line(alloc: Global, line: usize, text: &str) -> Result<String, AllocError> {
+/// Lines of an input, each with the line that takes its place.
+type Changes = [(&'static str, &'static str); 5];
+
+const NONE: (&str, &str) = ("", "");
+
+const UNCHANGED: Changes = [NONE, NONE, NONE, NONE, NONE];
+
+/// The output of the small input.
+const PLACED: &str =
+    "TopDiePlacement 1\nInst C1 0 0\nBottomDiePlacement 1\nInst C2 0 0\nNumTerminals 1\nTerminal N1 2 2\n";
+
+/// An input with its lines changed; one that is changed to nothing is left out.
+fn with_changes(alloc: Global, text: &str, changes: &Changes) -> Result<String, AllocError> {
     let mut input = String::new(alloc);
-    for (number, old) in LINES.iter().enumerate() {
-        input.push_str(if number == line { text } else { old })?;
-        input.push_str("\n")?;
+    for old in text.lines() {
+        let change = changes.iter().find(|change| change.0 == old);
+        let line = change.map_or(old, |change| change.1);
+        if !line.is_empty() {
+            input.push_str(line)?;
+            input.push_str("\n")?;
+        }
     }
     Ok(input)
 }
@@ -68,7 +76,7 @@ fn run_words(
     folder_fails: &[u64],
     sink_fails: &[u64],
 ) -> Result<Ended, Fail> {
-    let mut folder = MemFolder::new(alloc, folder_fails, 2, 1024)?;
+    let mut folder = MemFolder::new(alloc, folder_fails, 2, 2048)?;
     let mut out = MemSink::new(alloc, sink_fails, 64)?;
     if let Some(bytes) = input {
         let _ = folder.put_file("a", bytes.as_bytes());
@@ -83,25 +91,101 @@ fn run_words(
 }
 
 #[test]
-fn seeds_inputs_without_cells(rt: HostRuntime) -> Result<(), Fail> {
-    for (line, text, report) in [
-        (NONE, "", "seed 0 first top cut 0 slots 36\n"),
+fn seeds_are_written_with_their_scores(rt: HostRuntime) -> Result<(), Fail> {
+    let no_nets = [
+        ("NumNets 1", "NumNets 0"),
+        ("Net N1 2", ""),
+        ("Pin C1/P1", ""),
+        ("Pin C2/P1", ""),
+        NONE,
+    ];
+    let one_slot = [
+        ("BottomDieMaxUtil 50", "BottomDieMaxUtil 13"),
+        ("TerminalSize 2 2", "TerminalSize 10 10"),
+        ("TerminalSpacing 1", "TerminalSpacing 4"),
+        NONE,
+        NONE,
+    ];
+    let three_nets = [
+        ("NumNets 1", "NumNets 3"),
+        ("Net N1 2", "Net N1 3\nPin C1/P1"),
+        ("Pin C2/P1", "Pin C2/P1\nNet N2 1\nPin C1/P1\nNet N3 0"),
+        NONE,
+        NONE,
+    ];
+    for (text, changes, report, output) in [
         (
-            7,
-            "DieSize 0 0 4096 4096",
-            "seed 0 first top cut 0 slots 466489\n",
+            SMALL,
+            UNCHANGED,
+            "seed 2 first top cut 1 slots 36\n",
+            PLACED,
         ),
         (
-            14,
-            "TerminalSize\t10 10\r",
-            "seed 0 first top cut 0 slots 1\n",
+            SMALL,
+            no_nets,
+            "seed 0 first top cut 0 slots 36\n",
+            "TopDiePlacement 1\nInst C1 0 0\nBottomDiePlacement 1\nInst C2 0 0\nNumTerminals 0\n",
+        ),
+        (
+            SMALL,
+            one_slot,
+            "seed 28 first top cut 1 slots 1\n",
+            "TopDiePlacement 1\nInst C1 0 0\nBottomDiePlacement 1\nInst C2 0 0\nNumTerminals 1\nTerminal N1 9 9\n",
+        ),
+        (
+            SMALL,
+            three_nets,
+            "seed 2 first top cut 1 slots 36\n",
+            PLACED,
+        ),
+        (
+            HIGH,
+            UNCHANGED,
+            "seed 8 first bottom cut 1 slots 36\n",
+            "TopDiePlacement 1\nInst C2 0 0\nBottomDiePlacement 1\nInst C1 0 0\nNumTerminals 1\nTerminal N1 2 2\n",
+        ),
+        (
+            CONTEST,
+            UNCHANGED,
+            "seed 83 first top cut 2 slots 4\n",
+            "TopDiePlacement 4\nInst C1 0 0\nInst C2 7 0\nInst C3 16 0\nInst C4 0 10\nBottomDiePlacement 2\nInst C5 0 0\nInst C6 12 0\n\
+NumTerminals 2\nTerminal N1 7 7\nTerminal N3 17 7\n",
         ),
     ] {
-        let input = with_line(rt.alloc(), line, text)?;
+        let input = with_changes(rt.alloc(), text, &changes)?;
         let end = run_words(rt.alloc(), "seed a o", Some(input.as_str()), &[], &[])?;
-        assert_eq!(rt; end.status, 0, "{text}");
-        assert_eq!(rt; end.out.written(), report.as_bytes(), "{text}");
-        assert!(rt; end.folder.file("o") == Some(PLACED.as_bytes()), "{text}");
+        assert_eq!(rt; end.status, 0, "{report}");
+        assert_eq!(rt; end.out.written(), report.as_bytes(), "{report}");
+        assert!(rt; end.folder.file("o") == Some(output.as_bytes()), "{report}");
+    }
+    Ok(())
+}
+
+#[test]
+fn tells_why_no_seed_stands(rt: HostRuntime) -> Result<(), Fail> {
+    let lower = [
+        ("TopDieMaxUtil 20", "TopDieMaxUtil 19"),
+        NONE,
+        NONE,
+        NONE,
+        NONE,
+    ];
+    let two_nets = [
+        ("BottomDieMaxUtil 50", "BottomDieMaxUtil 13"),
+        ("TerminalSize 2 2", "TerminalSize 10 10"),
+        ("TerminalSpacing 1", "TerminalSpacing 4"),
+        ("NumNets 1", "NumNets 2"),
+        ("Net N1 2", "Net N2 2\nPin C1/P1\nPin C2/P1\nNet N1 2"),
+    ];
+    for (text, changes, report) in [
+        (HIGH, lower, "unfit top cell C2 bottom cell C2\n"),
+        (SMALL, two_nets, "unfit top slots 2 1 bottom slots 2 1\n"),
+    ] {
+        let input = with_changes(rt.alloc(), text, &changes)?;
+        let end = run_words(rt.alloc(), "seed a o", Some(input.as_str()), &[], &[])?;
+        assert_eq!(rt; end.status, 4, "{report}");
+        assert_eq!(rt; end.out.written(), report.as_bytes(), "{report}");
+        assert!(rt; end.folder.file("o").is_none(), "{report}");
     }
     Ok(())
 }
@@ -109,23 +193,45 @@ fn seeds_inputs_without_cells(rt: HostRuntime) -> Result<(), Fail> {
 #[test]
 fn reports_the_first_fault(rt: HostRuntime) -> Result<(), Fail> {
     for (line, text, report) in [
-        (17, "", "input a 284 ended\n"),
-        (17, "NumNets 0 x", "input a 293 trailing\n"),
-        (0, "NumTech 2", "input a 0 word\n"),
-        (0, "NumTechnologies 17", "input a 16 limit\n"),
-        (0, "NumTechnologies 0", "input a 16 range\n"),
-        (0, "NumTechnologies 1073741825", "input a 16 number\n"),
-        (2, "LibCell M\u{e9} 4 10 1", "input a 36 name\n"),
-        (4, "Tech TA 1", "input a 63 twice\n"),
-        (7, "DieSize 0 0 20 0", "input a 113 range\n"),
-        (8, "DieSize 0 0 20 20", "input a 116 twice\n"),
-        (8, "TopDieMaxUtil 101", "input a 130 range\n"),
-        (10, "TopDieRows 0 0 21 10 2", "input a 153 rows\n"),
-        (11, "BottomDieRows 0 0 20 10 3", "input a 176 rows\n"),
-        (13, "BottomDieTech TC", "input a 230 unknown\n"),
-        (16, "NumInstances 1", "input a 281 limit\n"),
+        ("Pin C2/P1", "", "input a 336 ended\n"),
+        ("Pin C2/P1", "Pin C2/P1 x", "input a 346 trailing\n"),
+        ("NumTechnologies 2", "NumTech 2", "input a 0 word\n"),
+        (
+            "NumTechnologies 2",
+            "NumTechnologies 17",
+            "input a 16 limit\n",
+        ),
+        (
+            "NumTechnologies 2",
+            "NumTechnologies 1073741825",
+            "input a 16 number\n",
+        ),
+        (
+            "DieSize 0 0 20 20",
+            "DieSize 0 0 20 0",
+            "input a 113 range\n",
+        ),
+        (
+            "TopDieMaxUtil 10",
+            "DieSize 0 0 20 20",
+            "input a 116 twice\n",
+        ),
+        (
+            "TopDieMaxUtil 10",
+            "TopDieMaxUtil 101",
+            "input a 130 range\n",
+        ),
+        (
+            "TopDieRows 0 0 20 10 2",
+            "TopDieRows 0 0 21 10 2",
+            "input a 153 rows\n",
+        ),
+        ("Inst C1 MC1", "Inst C1 MC2", "input a 291 unknown\n"),
+        ("Inst C2 MC1", "Inst C1 MC1", "input a 300 twice\n"),
+        ("Pin C1/P1", "Pin C1P1", "input a 330 name\n"),
+        ("Pin C1/P1", "Pin C9/P1", "input a 330 unknown\n"),
     ] {
-        let input = with_line(rt.alloc(), line, text)?;
+        let input = with_changes(rt.alloc(), SMALL, &[(line, text), NONE, NONE, NONE, NONE])?;
         let end = run_words(rt.alloc(), "seed a o", Some(input.as_str()), &[], &[])?;
         assert_eq!(rt; end.status, 3, "{text}");
         assert_eq!(rt; end.out.written(), report.as_bytes(), "{text}");
@@ -156,8 +262,7 @@ fn a_missing_file_is_told_and_none_is_made(rt: HostRuntime) -> Result<(), Fail> 
 
 #[test]
 fn a_folder_that_fails_at_once_prints_nothing(rt: HostRuntime) -> Result<(), Fail> {
-    let input = with_line(rt.alloc(), NONE, "")?;
-    let end = run_words(rt.alloc(), "seed a o", Some(input.as_str()), &[0], &[])?;
+    let end = run_words(rt.alloc(), "seed a o", Some(SMALL), &[0], &[])?;
     assert_eq!(rt; end.status, 6);
     assert_eq!(rt; end.out.calls(), 0);
     Ok(())
@@ -165,8 +270,7 @@ fn a_folder_that_fails_at_once_prints_nothing(rt: HostRuntime) -> Result<(), Fai
 
 #[test]
 fn a_sink_that_fails_leaves_the_output_whole(rt: HostRuntime) -> Result<(), Fail> {
-    let input = with_line(rt.alloc(), NONE, "")?;
-    let end = run_words(rt.alloc(), "seed a o", Some(input.as_str()), &[], &[0])?;
+    let end = run_words(rt.alloc(), "seed a o", Some(SMALL), &[], &[0])?;
     assert_eq!(rt; end.status, 6);
     assert!(rt; end.folder.file("o") == Some(PLACED.as_bytes()));
     Ok(())

@@ -1,5 +1,0 @@
-use Rattle.faceplace.proofs.Written.{written_on_ok}
-use Rattle.faceplace.proofs.output.write_out.Goals as goal
-
-pub returns-clause-written : goal.returns-clause-written
-returns-clause-written g c = written_on_ok c.finish.result c.new-writer.ensures.starts c.put.ensures.adds c.finish.ensures.finishes

@@ -1,0 +1,20 @@
+//! The refusal of an input file.
+
+ghost use Rattle.faceplace.specs.Report.{input_report};
+ghost use Rattle.faceplace.specs.Causes.{cause_of};
+ghost use Rattle.faceplace.specs.Status.{code_of, Refuses};
+
+use crate::report::{Cause, input_report};
+use crate::status::{Status, tell};
+use fp_base::Sink;
+use std::alloc::Global;
+
+/// Reports why an input file is refused.
+pub fn refuse<S: Sink>(alloc: Global, name: &str, cause: Cause, out: &mut S) -> Status
+    ensures { Refuses (input_report name.now (cause_of cause)) 3 (code_of result) (S.written out.old) (S.written out.new) (S.faults out.old) (S.faults out.new) }
+{
+    match input_report(alloc, name, cause) {
+        Ok(report) => tell(out, report.as_bytes(), Status::BadInput),
+        Err(_) => Status::NoMemory,
+    }
+}

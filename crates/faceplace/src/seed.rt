@@ -1,0 +1,108 @@
+//! The command that seeds an input.
+
+ghost use Rattle.std.specs.Prelude.{◌≡◌, IfOk, Some, string_bytes};
+ghost use Rattle.fp_place.specs.Cut.{cut};
+ghost use Rattle.fp_place.specs.Places.{dies_of};
+ghost use Rattle.fp_place.specs.Placed.{places_of, IsPlacementOf};
+ghost use Rattle.fp_score.specs.FirstFitLaws.{IsStopOf};
+ghost use Rattle.fp_score.specs.Terminals.{AreOnCuts};
+ghost use Rattle.faceplace.specs.Request.{Seed};
+ghost use Rattle.faceplace.specs.Report.{unfit_report};
+ghost use Rattle.faceplace.specs.Seeding.{IsLineOf};
+ghost use Rattle.faceplace.specs.Status.{code_of, Refuses};
+ghost use Rattle.faceplace.specs.Run.{outside, EndsAs};
+
+use crate::input::{self, read_input};
+use crate::refusal::refuse;
+use crate::report::{seed_report, unfit_report};
+use crate::status::{Status, tell};
+use fp_base::{Folder, NetId, Sink};
+use fp_netlist::Problem;
+use fp_out::write_out;
+use fp_place::Placement;
+use fp_score::{Stop, score};
+use fp_seed::{SeedFault, Seeded, seed};
+use fp_tech::Grid;
+use std::alloc::{AllocError, Global};
+
+/// The number of cut nets of a placement: exactly those have a terminal.
+fn cut_nets(problem: &Problem, placement: &Placement) -> u32
+    requires of_problem { IsPlacementOf problem.now placement.now }
+    requires on_cuts { AreOnCuts problem.now (dies_of (places_of placement.now)) placement.now.terminals }
+    ensures { result ≡ cut problem.now (dies_of (places_of placement.now)) }
+{
+    let mut count = 0;
+    for net in 0..problem.nets() {
+        if placement.terminal(NetId(net)).is_some() {
+            count += 1;
+        }
+    }
+    count
+}
+
+/// The line that reports a seed.
+fn line_of(alloc: Global, problem: &Problem, seeded: &Seeded) -> Result<String, AllocError>
+    requires of_problem { IsPlacementOf problem.now seeded.now.placement }
+    requires on_cuts { AreOnCuts problem.now (dies_of (places_of seeded.now.placement)) seeded.now.placement.terminals }
+    ensures { IfOk result (λ line. IsLineOf problem.now seeded.now.first seeded.now.placement (string_bytes line)) }
+{
+    let total = score(problem, &seeded.placement);
+    let cut = cut_nets(problem, &seeded.placement);
+    let slots = Grid::of(problem.dies()).slots();
+    seed_report(alloc, total, seeded.first, cut, slots)
+}
+
+/// Reports why neither first fit stands.
+fn unfit<S: Sink>(
+    alloc: Global,
+    problem: &Problem,
+    top_first: Stop,
+    bottom_first: Stop,
+    out: &mut S,
+) -> Status
+    requires top { IsStopOf problem.now top_first }
+    requires bottom { IsStopOf problem.now bottom_first }
+    ensures { Refuses (unfit_report problem.now top_first bottom_first) 4 (code_of result) (S.written out.old) (S.written out.new) (S.faults out.old) (S.faults out.new) }
+{
+    match unfit_report(alloc, problem, top_first, bottom_first) {
+        Ok(report) => tell(out, &report, Status::Unfit),
+        Err(_) => Status::NoMemory,
+    }
+}
+
+/// Writes the first-fit placement of an input file to an output file, and reports it.
+pub fn run_seed<F: Folder, S: Sink>(
+    alloc: Global,
+    input: &str,
+    output: &str,
+    folder: &mut F,
+    out: &mut S,
+) -> Status
+    ensures { EndsAs (Some (Seed input.now output.now)) (code_of result)
+        (outside (F.held folder.old) (S.written out.old) (F.faults folder.old) (S.faults out.old))
+        (outside (F.held folder.new) (S.written out.new) (F.faults folder.new) (S.faults out.new)) }
+{
+    let problem = match read_input(alloc, folder, input) {
+        Ok(problem) => problem,
+        Err(input::Stop::Memory) => return Status::NoMemory,
+        Err(input::Stop::Device) => return Status::Device,
+        Err(input::Stop::Refused(cause)) => return refuse(alloc, input, cause, out),
+    };
+    let seeded = match seed(alloc, &problem) {
+        Ok(seeded) => seeded,
+        Err(SeedFault::Memory) => return Status::NoMemory,
+        Err(
+            SeedFault::Unfit {
+                top_first,
+                bottom_first,
+            },
+        ) => return unfit(alloc, &problem, top_first, bottom_first, out),
+    };
+    let Ok(line) = line_of(alloc, &problem, &seeded) else {
+        return Status::NoMemory;
+    };
+    if write_out(folder, output, &problem, &seeded.placement).is_err() {
+        return Status::Device;
+    }
+    tell(out, line.as_bytes(), Status::Done)
+}

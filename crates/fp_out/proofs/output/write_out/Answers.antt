@@ -1,0 +1,6 @@
+use Rattle.fp_out.proofs.Adding.{in_turn, written_on_ok}
+use Rattle.fp_out.proofs.output.write_out.Goals as goal
+
+pub returns-clause-written : goal.returns-clause-written
+returns-clause-written g c =
+    written_on_ok c.finish.result c.new-writer.ensures.starts (in_turn (in_turn c.write_die.ensures.adds c.write_die-2.ensures.adds) c.write_terminals.ensures.adds) c.finish.ensures.finishes

@@ -1,0 +1,14 @@
+pub use Rattle.fp_tech.specs.Plan
+pub use Rattle.fp_netlist.specs.Netlist
+pub use Rattle.fp_netlist.specs.Points
+pub mod Areas
+pub mod Cut
+pub mod Drawing
+pub mod Held
+pub mod KeptCaps
+pub mod KeptDrawing
+pub mod Laying
+pub mod Legal
+pub mod Placed
+pub mod PlacedLaws
+pub mod Places

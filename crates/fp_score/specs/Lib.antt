@@ -1,0 +1,6 @@
+pub mod FirstFit
+pub mod FirstFitLaws
+pub mod Reaches
+pub mod Score
+pub mod ScoreLaws
+pub mod Terminals

@@ -1,0 +1,13 @@
+//! The contest's score of a placement, and what a first fit is.
+#![tactic(auto)]
+
+mod lengths;
+mod reach;
+mod reaches;
+mod stop;
+
+pub use lengths::{net_length, score};
+pub use stop::Stop;
+
+#[cfg(test)]
+mod tests;

@@ -1,0 +1,11 @@
+pub mod Areas
+pub mod Drawn
+pub mod Filling
+pub mod Fitting
+pub mod Legality
+pub mod Rows
+pub mod Seated
+pub mod Setting
+pub mod Shelved
+pub mod Standing
+pub mod Terminals
