@@ -64,6 +64,7 @@ impl Placement {
         ensures bottom { IfOk result (λ p. p.bottom ≡ bottom) }
         ensures xs { IfOk result (λ p. map (λ spot. spot.x) p.spots ≡ xs.now) }
         ensures terminals { IfOk result (λ p. p.terminals ≡ replicate (length problem.now.nets) None) }
+        ensures agree { IfOk result DoAgree }
     {
         let nets = problem.nets() as usize;
         let mut spots = vec![in alloc; NO_SPOT; xs.len()]?;

@@ -8,3 +8,6 @@ mod shelves;
 mod two_fits;
 
 pub use two_fits::{SeedFault, Seeded, seed};
+
+#[cfg(test)]
+mod tests;
