@@ -31,5 +31,8 @@ returns-clause-of_problem c =
     subst (λ spots. IsPlacementOf c.args.problem.now (record { spots = spots; top = c.args.top; bottom = c.args.bottom; terminals = c.in_ok-terminals.terminals.items })) (sym (kept c))
     (laid_placement _ _ _ _ _ _ (ready c) none)
 
+pub returns-clause-agree : goal.returns-clause-agree
+returns-clause-agree c = subst (λ spots. Agree spots c.args.top c.args.bottom) (sym (kept c)) (laid_agree _ _ _ _ _ (ready c))
+
 pub returns-clause-xs : goal.returns-clause-xs
 returns-clause-xs c = ap (map (λ (spot : Spot). spot.x)) (kept c) ∙ laid_xs _ _ _ _ _ (ready c)
