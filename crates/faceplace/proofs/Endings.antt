@@ -1,16 +1,16 @@
 -- How each path of the seed ends.
-use Rattle.std.proofs.Common.{◌≡◌, ◌⊎◌, ℕ, ◌≤◌, Bool, true, false, List, Option, Some, None, Result, Ok, Err, OnOk, OnErr, is_err, refl, sym, ap, subst, ◌∙◌, arith, inl, inr}
+use Rattle.std.proofs.Common.{◌≡◌, ◌⊎◌, ℕ, ◌≤◌, true, false, List, Option, Some, None, Result, Ok, Err, OnOk, OnErr, is_err, refl, sym, ap, subst, ◌∙◌, arith, inl, inr}
 use Rattle.fp_base.specs.Faults.{Rose}
 use Rattle.fp_base.specs.Files.{Files, WhereTold, bytes_of, sets_file, OthersStay}
 use Rattle.fp_base.specs.FilesLaws.{rose_since}
 use Rattle.fp_netlist.specs.Netlist.{Netlist}
 use Rattle.faceplace.specs.declared.status.Status.{Status}
 use Rattle.faceplace.specs.declared.status.Status.TheVariants as statuses
-use Rattle.faceplace.specs.Request.{Asked, Seed}
+use Rattle.faceplace.specs.Request.{Seed}
 use Rattle.faceplace.specs.Report.{Cause, IsMissing, IsLong, IsWrong, HasCause, HoldsProblem, HoldsOnly, input_report}
 use Rattle.faceplace.specs.Seeding.{Seeding, Stopping, IsSeeding, IsStopping, seed_text, IsSeedReport}
 use Rattle.faceplace.specs.Status.{code_of, Tells, Refuses}
-use Rattle.faceplace.specs.Run.{Ending, Done, NoMemory, BadWords, BadInput, Unfit, Device, Outside, outside, SeedStands, SeedStops, stops_report, EndsAs}
+use Rattle.faceplace.specs.Run.{Done, NoMemory, BadWords, BadInput, Unfit, Device, Outside, SeedStands, SeedStops, stops_report, EndsAs}
 use Rattle.faceplace.proofs.Seeds.{exclusive}
 
 -- the input file was refused

@@ -1,5 +1,5 @@
 -- An input file that is not in its grammar.
-use Rattle.std.proofs.Common.{◌≡◌, ℕ, ◌≤◌, List, Option, Some, None, length, Result, Ok, Err, subst, sym, ap, ◌∙◌}
+use Rattle.std.proofs.Common.{◌≡◌, ℕ, ◌≤◌, List, Option, Some, None, length, Result, Ok, subst, sym, ap, ◌∙◌}
 use Rattle.fp_base.specs.Files.{Files, WhereTold, bytes_of}
 use Rattle.fp_text.specs.declared.fault.Kind.{Kind}
 use Rattle.fp_text.specs.Reading.{Fault, fault}
@@ -7,7 +7,7 @@ use Rattle.fp_netlist.specs.Netlist.{Netlist}
 use Rattle.fp_contest_in.specs.Text.{ProblemText, netlist_of}
 use Rattle.fp_contest_in.specs.Grammar.{Reads}
 use Rattle.fp_contest_in.specs.Statements.{problem_of, GivesProblem}
-use Rattle.faceplace.specs.Report.{IsWrong, HasCause, HoldsOnly, Says, most_input}
+use Rattle.faceplace.specs.Report.{IsWrong, HasCause, HoldsOnly, most_input}
 
 abbrev pub read_as : ProblemText → Result ProblemText Fault
 read_as text = Ok text

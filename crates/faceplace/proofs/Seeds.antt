@@ -1,5 +1,5 @@
 -- What the seed's crate answers, as the program's endings say it.
-use Rattle.std.proofs.Common.{◌≡◌, ℕ, suc, ◌+◌, ◌<◌, Bool, cond, List, [], ◌∷◌, length, map, Option, Some, None, Result, Ok, Err, pos, refl, sym, ap, subst, ◌∙◌, arith}
+use Rattle.std.proofs.Common.{◌≡◌, ℕ, suc, ◌+◌, ◌<◌, Bool, cond, List, [], ◌∷◌, length, Option, Some, None, Ok, Err, refl, sym, ap, subst, ◌∙◌, arith}
 use Rattle.std.specs.Prelude.{is_some, slice_get}
 use Rattle.std.proofs.lemmas.Option.{get_or_from_slice_get}
 use Rattle.fp_base.specs.declared.ids.Point.{Point}
@@ -14,15 +14,14 @@ use Rattle.fp_place.specs.Drawing.{drawing_of}
 use Rattle.fp_place.specs.Placed.{Placed, places_of, drawn_of}
 use Rattle.fp_place.specs.Places.{dies_of}
 use Rattle.fp_score.specs.declared.stop.Stop.{Stop}
-use Rattle.fp_score.specs.FirstFit.{Seat, seat_dies, seat_places, first_fit, fit_terminals}
-use Rattle.fp_score.specs.FirstFitLaws.{stands_or_stops}
+use Rattle.fp_score.specs.FirstFit.{Seat, seat_dies, seat_places, first_fit}
 use Rattle.fp_score.specs.Score.{score}
 use Rattle.fp_score.specs.Terminals.{AreOnCuts}
 use Rattle.fp_out.specs.OutText.{out_text}
 use Rattle.fp_seed.specs.declared.two_fits.Seeded.{Seeded}
-use Rattle.fp_seed.specs.declared.two_fits.SeedFault.{SeedFault}
 use Rattle.fp_seed.specs.declared.two_fits.SeedFault.TheVariants as faults
 use Rattle.fp_seed.specs.Seeded.{SeedGives, IsSeated}
+use Rattle.fp_seed.specs.SeededLaws.{not_both}
 use Rattle.faceplace.specs.Report.{seed_report}
 use Rattle.faceplace.specs.Seeding.{Seeding, Stopping, IsSeeding, IsStopping, seed_text, IsSeedReport, IsLineOf}
 
@@ -31,8 +30,12 @@ pub exclusive : (s : Seeding) (t : Stopping) → s.problem ≡ t.problem → IsS
 exclusive s t one is_s is_t =
     let grids : IsGrid t.problem.plan.frame t.problem.plan.terminal s.grid = subst (λ (p : Netlist). IsGrid p.plan.frame p.plan.terminal s.grid) one is_s.grid_is in
     let same : t.grid ≡ s.grid = grid_once t.problem.plan.frame t.problem.plan.terminal t.grid s.grid is_t.grid_is grids in
-    stands_or_stops s.problem (slot_count s.grid) s.first s.seats t.top_first t.bottom_first is_s.seed_is
-    (at Top t.top_first same is_t.top_stops) (at Bottom t.bottom_first same is_t.bottom_stops)
+    not_both s.problem (slot_count s.grid) s.first s.seats is_s.seed_is (record {
+      top_first = t.top_first;
+      bottom_first = t.bottom_first;
+      top_stops = at Top t.top_first same is_t.top_stops;
+      bottom_stops = at Bottom t.bottom_first same is_t.bottom_stops;
+    })
   where
     at : (first : Die) (stop : Stop) → t.grid ≡ s.grid → first_fit t.problem (slot_count t.grid) first ≡ Err stop → first_fit s.problem (slot_count s.grid) first ≡ Err stop
     at first stop same e = subst (λ (p : Netlist). first_fit p (slot_count s.grid) first ≡ Err stop) (sym one)

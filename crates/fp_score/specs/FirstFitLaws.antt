@@ -1,15 +1,14 @@
--- Laws of first fits: how one stops, and that a problem has a seed or none.
+-- A first fit stops at a cell of the problem, or for want of slots.
 use Rattle.std.specs.Prelude.{◌≡◌, ℕ, ◌+◌, ◌<◌, nat_lt, List, [], ◌∷◌, ◌++◌, length, Option, Some, None, Result, Ok, Err, if◌then◌else◌}
-use Rattle.std.proofs.Common.{zero, suc, Bool, true, false, subst, refl, sym, ◌∙◌, arith}
+use Rattle.std.proofs.Common.{zero, suc, Bool, true, false, subst, refl, arith}
 use Rattle.std.proofs.lemmas.List.{length-append}
 use Rattle.fp_base.specs.declared.ids.CellId.{CellId}
 use Rattle.fp_base.specs.declared.ids.Die.{Die}
-use Rattle.fp_base.specs.declared.ids.Die.TheVariants.{Top, Bottom}
 use Rattle.fp_netlist.specs.Netlist.{Netlist}
 use Rattle.fp_place.specs.Cut.{cut}
 use Rattle.fp_score.specs.declared.stop.Stop.{Stop}
 use Rattle.fp_score.specs.declared.stop.Stop.TheVariants.{NoRoom, NoSlots}
-use Rattle.fp_score.specs.FirstFit.{Seat, seat_dies, seat_or, next_seat, filled, with_slots, first_fit, IsSeed}
+use Rattle.fp_score.specs.FirstFit.{Seat, seat_dies, seat_or, next_seat, filled, with_slots, first_fit}
 
 abbrev stops : Stop → Result (List Seat) Stop
 stops stop = Err stop
@@ -53,9 +52,3 @@ stop_within p slots first stop e = by (filled p first (length p.cells) []) e (λ
     by : (o : Result (List Seat) Stop) → with_slots p slots o ≡ Err stop → (o ≡ Err stop → IsStopOf p stop) → IsStopOf p stop
     by (Err other) e rest = rest e
     by (Ok seats) e rest = slotted (nat_lt slots (cut p (seat_dies seats))) seats (cut p (seat_dies seats)) e
-
--- where a seed stands, not both first fits stop
-pub stands_or_stops : (p : Netlist) (slots : ℕ) (first : Die) (seats : List Seat) (top bottom : Stop) → IsSeed p slots first seats
-    → first_fit p slots Top ≡ Err top → first_fit p slots Bottom ≡ Err bottom → ⊥
-stands_or_stops p slots Top seats top bottom is top_stops bottom_stops = absurd (let no : stands seats ≡ stops top = sym is ∙ top_stops in cc)
-stands_or_stops p slots Bottom seats top bottom is top_stops bottom_stops = absurd (let no : stands seats ≡ stops bottom = sym is.1 ∙ bottom_stops in cc)

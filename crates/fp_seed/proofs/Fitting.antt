@@ -1,11 +1,9 @@
 -- A first fit from its parts: where it stops, and what its placement is.
-use Rattle.std.specs.Prelude.{◌≡◌, ℕ, ◌<◌, ◌≤◌, Bool, true, false, nat_lt, if◌then◌else◌, List, [], length, get_or, All, Option, Some, None, Result, Ok, Err, slice_get, ◌+ℤ◌}
-use Rattle.std.proofs.Common.{refl, sym, ap, subst, ◌∙◌, arith}
+use Rattle.std.specs.Prelude.{◌≡◌, ℕ, ◌<◌, ◌≤◌, if◌then◌else◌, List, [], length, All, Ok, Err, ◌+ℤ◌}
+use Rattle.std.proofs.Common.{refl, sym, ap, subst, ◌∙◌}
 use Rattle.std.proofs.lemmas.Bool.{lt-ltb, le-ltb}
 use Rattle.std.proofs.lemmas.Option.{get_or_from_slice_get, slice_get_within}
 use Rattle.fp_base.specs.declared.ids.Die.{Die}
-use Rattle.fp_base.specs.declared.ids.CellId.{CellId}
-use Rattle.fp_tech.specs.declared.dies.Segment.{Segment}
 use Rattle.fp_tech.specs.Plan.{segments}
 use Rattle.fp_tech.specs.Slots.{Slots, slot_count, IsGrid}
 use Rattle.fp_netlist.specs.Netlist.{Netlist, IsSound}
@@ -13,13 +11,12 @@ use Rattle.fp_place.specs.Cut.{cut}
 use Rattle.fp_place.specs.Drawing.{drawing_of}
 use Rattle.fp_place.specs.Legal.{IsLegal}
 use Rattle.fp_place.specs.Places.{dies_of}
-use Rattle.fp_place.specs.Placed.{Placed, IsPlacementOf, IsInOrder, StandBetween, lanes_of, places_of}
+use Rattle.fp_place.specs.Placed.{Placed, IsInOrder, StandBetween, lanes_of}
 use Rattle.fp_score.specs.declared.stop.Stop.{Stop}
-use Rattle.fp_score.specs.declared.stop.Stop.TheVariants.{NoRoom, NoSlots}
+use Rattle.fp_score.specs.declared.stop.Stop.TheVariants.{NoSlots}
 use Rattle.fp_score.specs.FirstFit.{Seat, seat_dies, seat_places, sitters, filled, with_slots, first_fit, fit_terminals}
 use Rattle.fp_score.specs.Terminals.{AreOnCuts}
 use Rattle.fp_seed.specs.Fits.{IsOnDie, IsLaid, IsFirstFit}
-use Rattle.fp_seed.specs.Seeded.{IsSeated}
 use Rattle.fp_seed.proofs.Areas.{dies_of_seats}
 use Rattle.fp_seed.proofs.Filling.{all_seated, seats_in_range, length-fit_terminals, terminals_on_cuts, centres_in_range}
 use Rattle.fp_seed.proofs.Legality.{seed_is_legal}
@@ -59,7 +56,7 @@ lanes_in_order : (p : Netlist) (first : Die) (seats : List Seat) (placed : Place
     → IsInOrder p placed
 lanes_in_order p first seats placed sound fills is die number segment lane there at =
     let same : lane ≡ sitters die number seats = sym (get_or_from_slice_get (lanes_of placed die) number lane [] at)
-      ∙ is.lane_at die number (slice_get_within (segments p.plan die) number segment there) in
+    ∙ is.lane_at die number (slice_get_within (segments p.plan die) number segment there) in
     subst (λ places. StandBetween p die places segment.start (segment.start +ℤ segment.length) lane) (sym is.places_are)
     (subst (StandBetween p die (seat_places p.plan seats) segment.start (segment.start +ℤ segment.length)) (sym same)
     (seats_in_order p first seats sound fills die number segment there))
@@ -84,7 +81,7 @@ stands_with p grid first seats placed sound is_grid fills enough is =
         centres = centres_in_range p grid (seat_dies seats) sound is_grid enough;
       };
       on_cuts = subst (λ dies. AreOnCuts p dies (fit_terminals p grid (seat_dies seats))) (sym (ap dies_of is.places_are ∙ dies_of_seats p.plan seats))
-        (terminals_on_cuts p grid (seat_dies seats));
+          (terminals_on_cuts p grid (seat_dies seats));
     }
 
 pub stands : (p : Netlist) (grid : Slots) (first : Die) (seats : List Seat) (placed now : Placed) → IsSound p → IsGrid p.plan.frame p.plan.terminal grid

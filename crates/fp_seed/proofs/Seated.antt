@@ -1,5 +1,5 @@
 -- Seats with their segments and areas, step by step.
-use Rattle.std.specs.Prelude.{◌≡◌, ◌≢◌, ℕ, zero, suc, ◌+◌, ◌<◌, ◌≤◌, Bool, true, false, ◌&&◌, nat_eq, int_le, if◌then◌else◌, List, [], ◌∷◌, ◌++◌, length, map, get_or, set, Option, Some, None, Result, Ok, Err, IfOk, ℤ, pos, ◌+ℤ◌, ◌⊎◌}
+use Rattle.std.specs.Prelude.{◌≡◌, ℕ, zero, suc, ◌+◌, ◌<◌, Bool, true, false, ◌&&◌, nat_eq, int_le, if◌then◌else◌, List, [], ◌∷◌, ◌++◌, length, map, get_or, set, Some, None, Result, Ok, Err, IfOk, ℤ, pos, ◌+ℤ◌, ◌⊎◌}
 use Rattle.std.proofs.Common.{refl, sym, ap, subst, ◌∙◌, arith, inl, inr}
 use Rattle.std.proofs.lemmas.List.{append-nil, map_push, length-map, get_or-set_same, get_or-set_other}
 use Rattle.std.proofs.lemmas.Bool.{and_parts, cases_eq, ne_eqb, eq-eqb, and_left}
@@ -15,14 +15,13 @@ use Rattle.fp_place.specs.Held.{Held, held_on, has_room, with_area}
 use Rattle.fp_place.specs.Placed.{LaneList}
 use Rattle.fp_score.specs.FirstFit.{Seat, segment_at, seat_dies, sits_on, sitters, has_length, first_from, takes, first_room, seat_on, seat_of, next_seat, seat_or, filled}
 use Rattle.fp_score.specs.FirstFit as fit
-use Rattle.fp_score.specs.declared.stop.Stop.{Stop}
 use Rattle.fp_score.specs.declared.stop.Stop.TheVariants.{NoRoom}
 use Rattle.fp_seed.specs.declared.seating.Seating.{Seating}
 use Rattle.fp_seed.specs.Seats.{IsSeating, IsTaken}
 use Rattle.fp_seed.specs.Shelved.{holds, room_in, IsReady, HoldsSeats}
 use Rattle.fp_seed.proofs.Shelved.{longer}
-use Rattle.fp_seed.proofs.Filling.{HasRoom, first_room_some}
-use Rattle.fp_seed.proofs.Rows.{same_die-refl, used_by, used_push}
+use Rattle.fp_seed.proofs.Filling.{first_room_some}
+use Rattle.fp_seed.proofs.Rows.{same_die-refl, used_push}
 use Rattle.fp_seed.proofs.Areas.{area_push}
 
 -- tests that agree find the same
@@ -86,7 +85,7 @@ used_apart : (p : Netlist) (die : Die) (s : ℕ) (seats : List Seat) (seat : Sea
     → fit.used p die s (seats ++ seat ∷ []) ≡ fit.used p die s seats
 used_apart p die s seats seat sits =
     let more : fit.used p die s (seats ++ seat ∷ []) ≡ fit.used p die s seats + 0 =
-      used_push p die s seats seat (length seats) refl ∙ ap (λ b. fit.used p die s seats + (if b then width p (length seats) die else 0)) sits in
+    used_push p die s seats seat (length seats) refl ∙ ap (λ b. fit.used p die s seats + (if b then width p (length seats) die else 0)) sits in
     omega arith
 
 sits_here : (p : Netlist) (die : Die) (seats : List Seat) (segment : ℕ) → sits_on die segment (seat_on p seats die segment) ≡ true
@@ -146,9 +145,9 @@ pub area_apart : (p : Netlist) (die : Die) (seats : List Seat) (seat : Seat) →
     → area_on p die (seat_dies (seats ++ seat ∷ [])) ≡ area_on p die (seat_dies seats)
 area_apart p die seats seat other =
     let more : area_on p die (seat_dies (seats ++ seat ∷ [])) ≡ area_on p die (seat_dies seats) + 0 =
-      ap (area_on p die) (map_push (λ (s : Seat). s.die) seats seat)
-      ∙ area_push p die (seat_dies seats) seat.die (length seats) (length-map seats (λ (s : Seat). s.die))
-      ∙ ap (λ b. area_on p die (seat_dies seats) + (if b then area p (length seats) die else 0)) other in
+    ap (area_on p die) (map_push (λ (s : Seat). s.die) seats seat)
+    ∙ area_push p die (seat_dies seats) seat.die (length seats) (length-map seats (λ (s : Seat). s.die))
+    ∙ ap (λ b. area_on p die (seat_dies seats) + (if b then area p (length seats) die else 0)) other in
     omega arith
 
 -- facts of one result
@@ -182,8 +181,8 @@ took p die on seats used more first lanes filled_lanes segment cell x is are wit
     (record {
       x_is = is_x ∙ ap (λ u. (segment_at p.plan die segment).start +ℤ u) (are.used_at segment within);
       holds_more = subst (λ u. HoldsSeats p die (seats ++ seat_on p seats die segment ∷ []) u filled_lanes) (sym is_more)
-        (subst (HoldsSeats p die (seats ++ seat_on p seats die segment ∷ []) (longer p die used cell.0 segment)) (sym is_lanes)
-        (holds_here p die seats used first lanes segment cell is are within (sym last)));
+          (subst (HoldsSeats p die (seats ++ seat_on p seats die segment ∷ []) (longer p die used cell.0 segment)) (sym is_lanes)
+          (holds_here p die seats used first lanes segment cell is are within (sym last)));
     })
 
 pub left_alone : (p : Netlist) (die other on : Die) (seats : List Seat) (used : List ℤ) (lanes : LaneList) (segment : ℕ)
@@ -217,9 +216,9 @@ seated p before mid now die segment cell x is taken last caps_are seats_are top_
   top_ready = subst (λ t. IsReady p Top t.used.items t.first.items t.lanes) (sym top_is) taken.top_ready;
   bottom_ready = subst (λ t. IsReady p Bottom t.used.items t.first.items t.lanes) (sym bottom_is) taken.bottom_ready;
   top_holds = subst (λ t. HoldsSeats p Top now.seats.items t.used.items t.lanes) (sym top_is)
-    (subst (λ seats. HoldsSeats p Top seats mid.top.used.items mid.top.lanes) (sym seats_are) taken.top_holds);
+      (subst (λ seats. HoldsSeats p Top seats mid.top.used.items mid.top.lanes) (sym seats_are) taken.top_holds);
   bottom_holds = subst (λ t. HoldsSeats p Bottom now.seats.items t.used.items t.lanes) (sym bottom_is)
-    (subst (λ seats. HoldsSeats p Bottom seats mid.bottom.used.items mid.bottom.lanes) (sym seats_are) taken.bottom_holds);
+      (subst (λ seats. HoldsSeats p Bottom seats mid.bottom.used.items mid.bottom.lanes) (sym seats_are) taken.bottom_holds);
 }
   where
     caps_now : mid.caps ≡ before.caps

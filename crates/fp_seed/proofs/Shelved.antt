@@ -1,8 +1,8 @@
 -- The segments of a die, step by step.
-use Rattle.std.specs.Prelude.{◌≡◌, ◌≢◌, ℕ, zero, suc, ◌+◌, ◌*◌, ◌<◌, ◌≤◌, ◌^◌, Bool, true, false, ◌&&◌, nat_lt, nat_le, int_le, if◌then◌else◌, cond, List, [], ◌∷◌, ◌++◌, length, get_or, set, replicate, Option, Some, None, ℤ, pos, ◌+ℤ◌, ◌≤ℤ◌, ◌<ℤ◌, ◌⊎◌, IsTrue, unwrap_or}
+use Rattle.std.specs.Prelude.{◌≡◌, ℕ, zero, suc, ◌+◌, ◌*◌, ◌<◌, ◌≤◌, ◌^◌, Bool, true, false, ◌&&◌, nat_lt, nat_le, int_le, if◌then◌else◌, cond, List, [], ◌∷◌, ◌++◌, length, get_or, set, replicate, Some, None, ℤ, pos, ◌+ℤ◌, ◌≤ℤ◌, ◌⊎◌, unwrap_or}
 use Rattle.std.proofs.Common.{refl, sym, ap, subst, ◌∙◌, arith, inl, inr}
 use Rattle.std.proofs.lemmas.List.{get_or-replicate, length-replicate, length-set, get_or-set_same, get_or-set_other, get_or_past}
-use Rattle.std.proofs.lemmas.Bool.{leb-true, and_parts, and_from, and_left, and_right, cases_lt, cases_eq, false_from_ne_true}
+use Rattle.std.proofs.lemmas.Bool.{leb-true, and_parts, cases_lt, cases_eq, false_from_ne_true}
 use Rattle.std.proofs.lemmas.Bool.Decides.{nat_tests}
 use Rattle.std.proofs.lemmas.Option.{get_or_from_slice_get}
 use Rattle.std.proofs.lemmas.Int.{ints}
@@ -21,7 +21,7 @@ use Rattle.fp_netlist.specs.Points.{no_lib, width, lib_on}
 use Rattle.fp_place.specs.Areas.{fits}
 use Rattle.fp_place.specs.Held.{Held, has_room}
 use Rattle.fp_place.specs.Placed.{LaneList}
-use Rattle.fp_score.specs.FirstFit.{Seat, no_segment, segment_at, sitters, used_from, first_from}
+use Rattle.fp_score.specs.FirstFit.{no_segment, segment_at, sitters, used_from, first_from}
 use Rattle.fp_seed.specs.Shelved.{holds, room_in, IsReady, HoldsSeats}
 
 -- a segment lies in the frame
@@ -147,9 +147,9 @@ unfolding room_in
 room_is p held die used first lanes cell next is cell_in takes most too_full found =
     sym (ap (λ b. if b then first_from (holds p die used cell) 0 (length (segments p.plan die)) else None) takes
     ∙ (let same : 0 + length (segments p.plan die) ≡ length (segments p.plan die) = omega arith in
-      subst (λ m. first_from (holds p die used cell) 0 (length (segments p.plan die)) ≡ cond (nat_lt next m) (Some next) None) same
-      (first_is (holds p die used cell) (length (segments p.plan die)) 0 next (omega arith) (λ s from before. all s before (cases_lt s (get_or first (lib_of p cell) 0)))
-      (λ below. found (omega arith)) (omega arith))))
+    subst (λ m. first_from (holds p die used cell) 0 (length (segments p.plan die)) ≡ cond (nat_lt next m) (Some next) None) same
+    (first_is (holds p die used cell) (length (segments p.plan die)) 0 next (omega arith) (λ s from before. all s before (cases_lt s (get_or first (lib_of p cell) 0)))
+    (λ below. found (omega arith)) (omega arith))))
   where
     all : (s : ℕ) → s < next → (s < get_or first (lib_of p cell) 0) ⊎ (get_or first (lib_of p cell) 0 ≤ s) → holds p die used cell s ≡ false
     all s before (inl earlier) = is.passed cell cell_in s earlier
@@ -193,9 +193,9 @@ ready_longer p die used first lanes segment cell plan is within room = record {
   low = λ s. omega (arith, ints, is.low s, rises p die used cell.0 segment s (omega (arith, is.many)));
   high = λ s. top s (cases_eq s segment);
   passed = λ other other_in s before. false_from_ne_true (int_le (get_or (longer p die used cell.0 segment) s (pos 0) +ℤ pos (width p other die)) (segment_at p.plan die s).length)
-    (λ held. let h = held_before (width p other die) (segment_at p.plan die s).length (get_or used s (pos 0)) (get_or (longer p die used cell.0 segment) s (pos 0)) held
-    (rises p die used cell.0 segment s (omega (arith, is.many))) in
-    let nothing : false ≡ true = sym (is.passed other other_in s before) ∙ h in cc);
+      (λ held. let h = held_before (width p other die) (segment_at p.plan die s).length (get_or used s (pos 0)) (get_or (longer p die used cell.0 segment) s (pos 0)) held
+      (rises p die used cell.0 segment s (omega (arith, is.many))) in
+      let nothing : false ≡ true = sym (is.passed other other_in s before) ∙ h in cc);
 }
   where
     top : (s : ℕ) → (s ≡ segment) ⊎ (s ≡ segment → ⊥) → get_or (longer p die used cell.0 segment) s (pos 0) ≤ℤ pos (2 ^ 30)
@@ -207,7 +207,6 @@ ready_longer p die used first lanes segment cell plan is within room = record {
         (omega (arith, ints, ends, lies.start, lies.ends)))
     top s (inr other) =
         subst (λ u. u ≤ℤ pos (2 ^ 30)) (sym (get_or-set_other used segment s (get_or used segment (pos 0) +ℤ pos (width p cell.0 die)) (pos 0) other)) (is.high s)
-
 
 pub ready_taken : (p : Netlist) (die : Die) (used : List ℤ) (first : List ℕ) (lanes more : LaneList) (segment : ℕ) (cell : CellId) (sum : ℤ) → IsPlan p.plan
     → IsReady p die used first lanes → segment < length (segments p.plan die) → holds p die used cell.0 segment ≡ true

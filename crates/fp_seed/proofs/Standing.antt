@@ -1,5 +1,5 @@
 -- Lanes of seats, and the placement that they make.
-use Rattle.std.specs.Prelude.{◌≡◌, ◌≢◌, ℕ, ◌+◌, ◌<◌, ◌≤◌, Bool, true, false, List, [], ◌∷◌, length, map, get_or, replicate, All, Contains, Option, Some, None, Result, Ok, Err, IfOk, option_map, slice_get, ℤ, pos, ◌⊎◌}
+use Rattle.std.specs.Prelude.{◌≡◌, ℕ, ◌+◌, ◌<◌, List, [], length, map, get_or, replicate, All, Contains, Some, None, Result, Ok, Err, IfOk, option_map, slice_get, ℤ, pos, ◌⊎◌}
 use Rattle.std.proofs.Common.{refl, sym, ap, subst, ◌∙◌, arith, inl, inr}
 use Rattle.std.proofs.lemmas.List.{same_lists, get_or-map, length-map}
 use Rattle.std.proofs.lemmas.Bool.{cases_order}
@@ -10,18 +10,18 @@ use Rattle.fp_base.specs.declared.ids.CellId.{CellId}
 use Rattle.fp_tech.specs.declared.dies.Segment.{Segment}
 use Rattle.fp_tech.specs.Plan.{segments}
 use Rattle.fp_netlist.specs.Netlist.{Netlist, ids_where}
-use Rattle.fp_netlist.specs.NetlistLaws.{IsPlace, places, place_counted, places_rise}
+use Rattle.fp_netlist.specs.NetlistLaws.{places, place_counted, places_rise}
 use Rattle.fp_place.specs.Places.{Place}
 use Rattle.fp_place.specs.declared.placement.Spot.{Spot}
 use Rattle.fp_place.specs.Drawing.{IsCoordinate}
-use Rattle.fp_place.specs.Placed.{LaneList, Placed, Agree, DoAgree, StandOnce, IsSpotOf, IsPlacementOf, lanes_on, lanes_of, entry_at, no_spot, place_of, places_of}
-use Rattle.fp_place.specs.PlacedLaws.{IsEntry, entry_of, entry_on, entry_within}
-use Rattle.fp_score.specs.FirstFit.{Seat, no_segment, segment_at, sits_on, sitters, seat_place, seat_places}
+use Rattle.fp_place.specs.Placed.{LaneList, Placed, DoAgree, StandOnce, IsSpotOf, IsPlacementOf, lanes_on, entry_at, no_spot, place_of, places_of}
+use Rattle.fp_place.specs.PlacedLaws.{entry_of, entry_on, entry_within}
+use Rattle.fp_score.specs.FirstFit.{Seat, no_segment, sits_on, sitters, seat_place, seat_places}
 use Rattle.fp_seed.specs.declared.seating.Seating.{Seating}
 use Rattle.fp_seed.specs.Seats.{IsSeating}
 use Rattle.fp_seed.specs.Fits.{IsOnDie, IsLaid}
 use Rattle.fp_seed.specs.Seeded.{spot_seat}
-use Rattle.fp_seed.proofs.Rows.{SitsOn, sits_on-true, sits_on-from, same_die-refl}
+use Rattle.fp_seed.proofs.Rows.{SitsOn, sits_on-true, sits_on-from}
 
 abbrev no_seat : Seat
 no_seat = record { die = Top; segment = 0; x = pos 0 }
@@ -64,7 +64,7 @@ sitter p seats top bottom die segment rank cell are is =
     let entry = entry_of (lanes_on top bottom die) segment rank cell is in
     let within : segment < length (segments p.plan die) = omega (arith, entry_within (lanes_on top bottom die) segment rank cell is, are.many die) in
     let lane : entry.lane ≡ sitters die segment seats =
-      sym (get_or_from_slice_get (lanes_on top bottom die) segment entry.lane [] entry.there) ∙ are.lane_at die segment within in
+    sym (get_or_from_slice_get (lanes_on top bottom die) segment entry.lane [] entry.there) ∙ are.lane_at die segment within in
     sitter_at seats die segment rank cell (ap (λ lane. slice_get lane rank) (sym lane) ∙ entry.at)
 
 -- a cell sits once
@@ -101,32 +101,32 @@ ranked p seats top bottom cell are on_die below =
     let ids = ids_where (sits_on seat.die seat.segment) 0 seats in
     let on = on_die cell no_seat below in
     let counted : Contains ids (0 + cell) = place_counted (sits_on seat.die seat.segment) 0 seats cell seat (slice_get-get_or seats cell no_seat below)
-      (sits_on-from seat.die seat.segment seat (record { die_is = refl; segment_is = refl })) in
+    (sits_on-from seat.die seat.segment seat (record { die_is = refl; segment_is = refl })) in
     let number : get_or ids counted.0 (0 + cell) ≡ cell = omega (arith, counted.2) in
     let lane : slice_get (lanes_on top bottom seat.die) seat.segment ≡ Some (map cell_of ids) =
-      slice_get-get_or (lanes_on top bottom seat.die) seat.segment [] (omega (arith, on.within, are.many seat.die)) ∙ ap Some (are.lane_at seat.die seat.segment on.within) in
+    slice_get-get_or (lanes_on top bottom seat.die) seat.segment [] (omega (arith, on.within, are.many seat.die)) ∙ ap Some (are.lane_at seat.die seat.segment on.within) in
     record {
       rank = counted.0;
       entry = entry_on (lanes_on top bottom seat.die) seat.segment counted.0 (map cell_of ids) lane
-        ∙ slice_get-map cell_of ids counted.0 ∙ ap (option_map cell_of) (slice_get-get_or ids counted.0 (0 + cell) counted.1 ∙ ap Some number);
+          ∙ slice_get-map cell_of ids counted.0 ∙ ap (option_map cell_of) (slice_get-get_or ids counted.0 (0 + cell) counted.1 ∙ ap Some number);
     }
 
 pub stand_once : (p : Netlist) (seats : List Seat) (top bottom : LaneList) → AreLanes p seats top bottom → All (IsOnDie p) seats → length seats ≡ length p.cells
     → StandOnce (length p.cells) top bottom
 stand_once p seats top bottom are on_die many = record {
   there = λ cell below.
-    let at = ranked p seats top bottom cell are on_die (omega (arith, below, many)) in
-    ((get_or seats cell no_seat).die, (get_or seats cell no_seat).segment, at.rank, at.entry);
+      let at = ranked p seats top bottom cell are on_die (omega (arith, below, many)) in
+      ((get_or seats cell no_seat).die, (get_or seats cell no_seat).segment, at.rank, at.entry);
   within = λ die segment rank cell is.
-    let at = sitter p seats top bottom die segment rank cell are is in omega (arith, slice_get_within seats cell.0 at.seat at.at, many);
+      let at = sitter p seats top bottom die segment rank cell are is in omega (arith, slice_get_within seats cell.0 at.seat at.at, many);
   one_die = λ a b i j r s cell x y.
-    let at = sitter p seats top bottom a i r cell are x in let there = sitter p seats top bottom b j s cell are y in
-    sym at.sits.die_is ∙ ap (λ (seat : Seat). seat.die) (same_seat seats a b i j r s cell at there) ∙ there.sits.die_is;
+      let at = sitter p seats top bottom a i r cell are x in let there = sitter p seats top bottom b j s cell are y in
+      sym at.sits.die_is ∙ ap (λ (seat : Seat). seat.die) (same_seat seats a b i j r s cell at there) ∙ there.sits.die_is;
   one_segment = λ a b i j r s cell x y.
-    let at = sitter p seats top bottom a i r cell are x in let there = sitter p seats top bottom b j s cell are y in
-    sym at.sits.segment_is ∙ ap (λ (seat : Seat). seat.segment) (same_seat seats a b i j r s cell at there) ∙ there.sits.segment_is;
+      let at = sitter p seats top bottom a i r cell are x in let there = sitter p seats top bottom b j s cell are y in
+      sym at.sits.segment_is ∙ ap (λ (seat : Seat). seat.segment) (same_seat seats a b i j r s cell at there) ∙ there.sits.segment_is;
   one_rank = λ a b i j r s cell x y.
-    one_rank seats a b i j r s cell (sitter p seats top bottom a i r cell are x) (sitter p seats top bottom b j s cell are y);
+      one_rank seats a b i j r s cell (sitter p seats top bottom a i r cell are x) (sitter p seats top bottom b j s cell are y);
 }
 
 -- the placement of these lanes
@@ -161,9 +161,9 @@ first_spot p seats placed is cell below =
     let seat : get_or seats cell no_seat ≡ at.seat = get_or_from_slice_get seats cell at.seat no_seat at.at in
     let within : cell < length seats = omega (arith, below, is.all, is.of_problem.cells) in
     let x : spot.x ≡ (get_or seats cell no_seat).x = sym (get_or-map (λ (spot : Spot). spot.x) placed.spots cell no_spot (pos 0) below)
-      ∙ ap (λ xs. get_or xs cell (pos 0)) is.xs ∙ get_or-map (λ (seat : Seat). seat.x) seats cell no_seat (pos 0) within in
+    ∙ ap (λ xs. get_or xs cell (pos 0)) is.xs ∙ get_or-map (λ (seat : Seat). seat.x) seats cell no_seat (pos 0) within in
     let same = same_parts spot (get_or seats cell no_seat) (sym at.sits.die_is ∙ ap (λ (seat : Seat). seat.die) (sym seat))
-      (sym at.sits.segment_is ∙ ap (λ (seat : Seat). seat.segment) (sym seat)) x in
+    (sym at.sits.segment_is ∙ ap (λ (seat : Seat). seat.segment) (sym seat)) x in
     record {
       seat_is = same;
       place_is = on_its_row p spot (is.of_problem.spots cell no_spot below) ∙ ap (seat_place p.plan) same;
@@ -173,7 +173,7 @@ pub laid_is : (p : Netlist) (seats : List Seat) (placed : Placed) → IsBuilt p 
 laid_is p seats placed is = record {
   seats_are = seats_are;
   places_are = same_lists (places_of placed) (seat_places p.plan seats) (length-map placed.spots place_of ∙ many ∙ sym (length-map seats (seat_place p.plan)))
-    (λ k d below. place_at k d (omega (arith, below, length-map placed.spots place_of)));
+      (λ k d below. place_at k d (omega (arith, below, length-map placed.spots place_of)));
   lane_at = is.lanes.lane_at;
   of_problem = is.of_problem;
   bare = is.bare;

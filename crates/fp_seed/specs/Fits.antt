@@ -1,7 +1,6 @@
 -- A first fit as a placement.
-use Rattle.std.specs.Prelude.{◌≡◌, ℕ, ◌<◌, List, [], length, map, replicate, get_or, Option, Some, None, Ok, Err}
+use Rattle.std.specs.Prelude.{◌≡◌, ℕ, ◌<◌, List, [], length, map, replicate, get_or, None, Ok, Err}
 use Rattle.fp_base.specs.declared.ids.Die.{Die}
-use Rattle.fp_base.specs.declared.ids.Point.{Point}
 use Rattle.fp_tech.specs.Plan.{segments}
 use Rattle.fp_tech.specs.Slots.{Slots, slot_count}
 use Rattle.fp_netlist.specs.Netlist.{Netlist}
@@ -9,7 +8,7 @@ use Rattle.fp_place.specs.Places.{dies_of}
 use Rattle.fp_place.specs.Placed.{Placed, lanes_of, places_of, drawn_of, IsPlacementOf, IsInOrder}
 use Rattle.fp_place.specs.Drawing.{IsCoordinate}
 use Rattle.fp_place.specs.Legal.{IsLegal}
-use Rattle.fp_score.specs.FirstFit.{Seat, seat_dies, seat_places, sitters, first_fit, terminal_of}
+use Rattle.fp_score.specs.FirstFit.{Seat, seat_places, sitters, first_fit}
 use Rattle.fp_score.specs.Terminals.{AreOnCuts}
 use Rattle.fp_seed.specs.declared.fit.Fit.{Fit}
 use Rattle.fp_seed.specs.declared.fit.Fit.TheVariants.{Stands, Stops}

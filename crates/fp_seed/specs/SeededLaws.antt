@@ -1,9 +1,9 @@
 -- Laws of the seed: there is at most one, and it stands exactly where one of the two first fits does.
-use Rattle.std.specs.Prelude.{◌≡◌, ℕ, List, map, Result, Ok, Err, ◌⊎◌}
+use Rattle.std.specs.Prelude.{◌≡◌, ℕ, List, Result, Ok, Err, ◌⊎◌}
 use Rattle.std.proofs.Common.{refl, sym, ap, subst, ◌∙◌, inl, inr}
 use Rattle.fp_base.specs.declared.ids.Die.{Die}
 use Rattle.fp_base.specs.declared.ids.Die.TheVariants.{Top, Bottom}
-use Rattle.fp_tech.specs.Slots.{Slots, slot_count, IsGrid}
+use Rattle.fp_tech.specs.Slots.{Slots, slot_count}
 use Rattle.fp_tech.specs.SlotsLaws.{grid_once}
 use Rattle.fp_netlist.specs.Netlist.{Netlist}
 use Rattle.fp_place.specs.Drawing.{drawing_of}

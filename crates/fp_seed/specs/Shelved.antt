@@ -1,6 +1,6 @@
 -- The segments of one die as cells are put on them: the length of each that is used, the first that may have room for each library
 -- cell, and the cells on each.
-use Rattle.std.specs.Prelude.{◌≡◌, ℕ, ◌<◌, ◌≤◌, ◌^◌, Bool, true, false, int_le, List, [], length, get_or, ℤ, pos, ◌+ℤ◌, ◌≤ℤ◌, Option, None, if◌then◌else◌, ◌&&◌}
+use Rattle.std.specs.Prelude.{◌≡◌, ℕ, ◌<◌, ◌^◌, Bool, false, int_le, List, [], length, get_or, ℤ, pos, ◌+ℤ◌, ◌≤ℤ◌, Option, None, if◌then◌else◌, ◌&&◌}
 use Rattle.fp_base.specs.declared.ids.Die.{Die}
 use Rattle.fp_tech.specs.Plan.{segments}
 use Rattle.fp_netlist.specs.Netlist.{Netlist, lib_of}

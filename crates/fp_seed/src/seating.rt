@@ -53,7 +53,13 @@ impl Seating {
     }
 
     // Takes room for the next cell on a segment of a die, and tells its x.
-    fn take(&mut self, problem: &Problem, cell: CellId, die: Die, segment: u32) -> Result<i64, NoMemory>
+    fn take(
+        &mut self,
+        problem: &Problem,
+        cell: CellId,
+        die: Die,
+        segment: u32,
+    ) -> Result<i64, NoMemory>
         requires cell { cell.0 < length problem.now.cells }
         requires next { cell.0 ≡ length self.old.seats.items }
         requires seating { IsSeating problem.now self.old }
@@ -67,7 +73,13 @@ impl Seating {
     }
 
     // Seats the next cell on a segment that has room for it.
-    fn put(&mut self, problem: &Problem, cell: CellId, die: Die, segment: u32) -> Result<(), NoMemory>
+    fn put(
+        &mut self,
+        problem: &Problem,
+        cell: CellId,
+        die: Die,
+        segment: u32,
+    ) -> Result<(), NoMemory>
         requires cell { cell.0 < length problem.now.cells }
         requires next { cell.0 ≡ length self.old.seats.items }
         requires seating { IsSeating problem.now self.old }

@@ -13,7 +13,10 @@ use std::process::Abort;
 use std::test::Fail;
 
 /// Two technologies with an inverter of 3 by 5 and of 2 by 6, and a buffer of 4 by 4 and of 2 by 7.
-fn two_technologies(rt: &impl Abort, alloc: Global) -> Result<(TechBook, LibId, LibId), BuildFault> {
+fn two_technologies(
+    rt: &impl Abort,
+    alloc: Global,
+) -> Result<(TechBook, LibId, LibId), BuildFault> {
     let mut book = TechBook::new(alloc);
     let first = book.add_tech(b"TA")?;
     let second = book.add_tech(b"TB")?;
@@ -110,69 +113,86 @@ fn small_problem(
     Ok(builder.finish()?)
 }
 
-/// The die, the x and the y of three cells.
-fn expect_places(rt: &impl Abort, placement: &Placement, expected: [(Die, i64, i64); 3])
-    requires { length placement.now.spots ≡ 3 }
+/// What a seed is to be: its first die, the die and the x of each cell, all at y 0, and the terminals.
+#[derive(Clone, Copy)]
+struct Expected {
+    first: Die,
+    cells: [(Die, i64); 3],
+    terminals: [Option<Point>; 2],
+}
+
+fn expect_placement(rt: &impl Abort, placement: &Placement, expected: &Expected)
+    requires cells { length placement.now.spots ≡ 3 }
+    requires nets { length placement.now.terminals ≡ 2 }
 {
-    for (cell, (die, x, y)) in expected.iter().enumerate() {
+    for (cell, (die, x)) in expected.cells.iter().enumerate() {
         let spot = placement.spot(CellId(cell as u32));
-        assert!(rt; spot.die == *die && spot.x == *x && spot.y == *y);
+        assert!(rt; spot.die == *die && spot.x == *x && spot.y == 0);
+    }
+    for (net, terminal) in expected.terminals.iter().enumerate() {
+        assert!(rt; placement.terminal(NetId(net as u32)) == *terminal);
     }
 }
 
-/// The seed with its first die, which has three cells and two nets.
+/// The seed of a problem of three cells and two nets.
 fn seed_of(rt: &impl Abort, alloc: Global, problem: &Problem) -> Result<Seeded, SeedFault>
-    ensures spots { IfOk result (λ s. length s.placement.spots ≡ 3) }
-    ensures terminals { IfOk result (λ s. length s.placement.terminals ≡ 2) }
+    ensures cells { IfOk result (λ s. length s.placement.spots ≡ 3) }
+    ensures nets { IfOk result (λ s. length s.placement.terminals ≡ 2) }
 {
-    assert!(rt; problem.cells() == 3 && problem.nets() == 2);
+    assert!(rt; problem.cells() == 3);
+    assert!(rt; problem.nets() == 2);
     seed(alloc, problem)
+}
+
+fn expect_seed(rt: &impl Abort, seeded: Result<Seeded, SeedFault>, expected: &Expected)
+    requires cells { IfOk seeded (λ s. length s.placement.spots ≡ 3) }
+    requires nets { IfOk seeded (λ s. length s.placement.terminals ≡ 2) }
+{
+    match seeded {
+        Ok(seeded) => {
+            assert!(rt; seeded.first == expected.first);
+            expect_placement(rt, &seeded.placement, expected);
+        }
+        Err(_fault) => assert!(rt; false, "it stands"),
+    }
 }
 
 #[test]
 fn top_first_where_it_stands(rt: HostRuntime) -> Result<(), Fail> {
     let problem = small_problem(&rt, rt.alloc(), 4, false)?;
-    match seed_of(&rt, rt.alloc(), &problem) {
-        Ok(seeded) => {
-            assert_eq!(&rt; seeded.first, Die::Top);
-            let expected = [(Die::Top, 0, 0), (Die::Bottom, 0, 0), (Die::Bottom, 2, 0)];
-            expect_places(&rt, &seeded.placement, expected);
-            assert_eq!(&rt; seeded.placement.terminal(NetId(0)), Some(Point { x: 2, y: 2 }));
-            assert_eq!(&rt; seeded.placement.terminal(NetId(1)), None);
-        }
-        Err(_fault) => assert!(&rt; false, "it stands"),
-    }
+    let expected = Expected {
+        first: Die::Top,
+        cells: [(Die::Top, 0), (Die::Bottom, 0), (Die::Bottom, 2)],
+        terminals: [Some(Point { x: 2, y: 2 }), None],
+    };
+    let seeded = seed_of(&rt, rt.alloc(), &problem);
+    expect_seed(&rt, seeded, &expected);
     Ok(())
 }
 
 #[test]
 fn bottom_first_where_that_stops(rt: HostRuntime) -> Result<(), Fail> {
     let problem = small_problem(&rt, rt.alloc(), 4, true)?;
-    match seed_of(&rt, rt.alloc(), &problem) {
-        Ok(seeded) => {
-            assert_eq!(&rt; seeded.first, Die::Bottom);
-            let expected = [(Die::Bottom, 0, 0), (Die::Top, 0, 0), (Die::Bottom, 2, 0)];
-            expect_places(&rt, &seeded.placement, expected);
-            assert_eq!(&rt; seeded.placement.terminal(NetId(0)), Some(Point { x: 2, y: 2 }));
-            assert_eq!(&rt; seeded.placement.terminal(NetId(1)), Some(Point { x: 5, y: 2 }));
-        }
-        Err(_fault) => assert!(&rt; false, "it stands"),
-    }
+    let expected = Expected {
+        first: Die::Bottom,
+        cells: [(Die::Bottom, 0), (Die::Top, 0), (Die::Bottom, 2)],
+        terminals: [Some(Point { x: 2, y: 2 }), Some(Point { x: 5, y: 2 })],
+    };
+    let seeded = seed_of(&rt, rt.alloc(), &problem);
+    expect_seed(&rt, seeded, &expected);
     Ok(())
 }
 
 #[test]
 fn both_stop(rt: HostRuntime) -> Result<(), Fail> {
     let problem = small_problem(&rt, rt.alloc(), 3, true)?;
-    match seed_of(&rt, rt.alloc(), &problem) {
+    let expected = SeedFault::Unfit {
+        top_first: Stop::NoRoom(CellId(1)),
+        bottom_first: Stop::NoRoom(CellId(2)),
+    };
+    match seed(rt.alloc(), &problem) {
         Ok(_seeded) => assert!(&rt; false, "neither stands"),
-        Err(fault) => {
-            let expected = SeedFault::Unfit {
-                top_first: Stop::NoRoom(CellId(1)),
-                bottom_first: Stop::NoRoom(CellId(2)),
-            };
-            assert_eq!(&rt; fault, expected);
-        }
+        Err(fault) => assert!(&rt; fault == expected),
     }
     Ok(())
 }

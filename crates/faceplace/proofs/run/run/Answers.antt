@@ -1,4 +1,4 @@
-use Rattle.std.proofs.Common.{subst, sym}
+use Rattle.std.proofs.Common.{subst}
 use Rattle.faceplace.specs.Status.{code_of}
 use Rattle.faceplace.specs.Run.{Outside, outside, EndsAs}
 use Rattle.faceplace.proofs.Endings.{seeded, unseeded}

@@ -1,5 +1,5 @@
-use Rattle.std.proofs.Common.{◌≡◌, true, false, refl, ◌∙◌, sym, arith}
-use Rattle.fp_place.specs.Cut.{cut_below, is_cut}
+use Rattle.std.proofs.Common.{true, false, refl, ◌∙◌, sym, arith}
+use Rattle.fp_place.specs.Cut.{cut_below}
 use Rattle.fp_place.specs.Places.{dies_of}
 use Rattle.fp_place.specs.Placed.{places_of}
 use Rattle.faceplace.proofs.Seeds.{cut_more, terminal_cut}

@@ -1,12 +1,12 @@
-use Rattle.std.proofs.Common.{◌≡◌, ◌≤◌, [], length, map, None, Some, Ok, Err, refl, ap, sym, subst, ◌∙◌, arith}
+use Rattle.std.proofs.Common.{◌≡◌, ◌≤◌, length, None, Err, ap, sym, subst, ◌∙◌, arith}
 use Rattle.std.proofs.lemmas.List.{length-map}
 use Rattle.fp_tech.specs.Slots.{slot_count}
 use Rattle.fp_place.specs.Cut.{cut}
 use Rattle.fp_score.specs.declared.stop.Stop.TheVariants.{NoSlots}
-use Rattle.fp_score.specs.FirstFit.{Seat, seat_dies, filled, fit_terminals}
+use Rattle.fp_score.specs.FirstFit.{Seat, seat_dies, fit_terminals}
 use Rattle.fp_seed.specs.Seats.{Fills}
 use Rattle.fp_seed.proofs.Filling.{as_many_seats}
-use Rattle.fp_seed.proofs.Fitting.{stops_for_room, stops_for_slots, seats_on_dies, stands, with_terminals}
+use Rattle.fp_seed.proofs.Fitting.{stops_for_room, stops_for_slots, seats_on_dies, stands}
 use Rattle.fp_seed.proofs.Setting.{with_list}
 use Rattle.fp_seed.proofs.fit.fit_with.Goals as goal
 use Rattle.fp_seed.proofs.fit.fit_with.Goals.{In_default, After-deref-2, After-slots-slots}

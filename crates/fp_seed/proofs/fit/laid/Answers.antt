@@ -1,5 +1,4 @@
-use Rattle.std.proofs.Common.{◌≡◌, map, length, refl, ap, sym, subst, ◌∙◌, arith}
-use Rattle.fp_place.specs.Placed.{StandOnce}
+use Rattle.std.proofs.Common.{◌≡◌, map, ap, sym, subst, ◌∙◌}
 use Rattle.fp_score.specs.FirstFit.{Seat}
 use Rattle.fp_seed.proofs.Standing.{AreLanes, seating_lanes, stand_once, xs_in_range, laid_where_ok}
 use Rattle.fp_seed.proofs.fit.laid.Goals as goal

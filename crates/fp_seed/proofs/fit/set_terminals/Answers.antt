@@ -1,6 +1,4 @@
-use Rattle.std.proofs.Common.{◌≡◌, ◌<◌, ◌+◌, true, false, Some, set, refl, ap, sym, subst, ◌∙◌, arith}
-use Rattle.fp_tech.specs.Slots.{slot_count}
-use Rattle.fp_place.specs.Cut.{is_cut}
+use Rattle.std.proofs.Common.{◌+◌, Some, set, ap, sym, subst, ◌∙◌, arith}
 use Rattle.fp_seed.proofs.Setting.{AreSet, set_none, set_one, set_no, set_all, slot_there, slot_small, with_list}
 use Rattle.fp_seed.proofs.fit.set_terminals.Goals as goal
 use Rattle.fp_seed.proofs.fit.set_terminals.Goals.{then-is_cut, else-is_cut}
@@ -24,15 +22,15 @@ loop-number-preserved c =
     let p = c.args.problem.now in let grid = c.args.grid.now in let dies = c.args.dies.now in let before = c.args.placement.now in let number = c.loop-number.number in
     elim c.if-is_cut.branch [
       | then-is_cut w ↦
-        subst (λ placed. AreSet p grid dies before placed (number + 1) c.if-is_cut.slot) (sym w.placement-is)
-        (subst (AreSet p grid dies before w.set_terminal.new.self (number + 1)) (sym w.slot-is)
-        (set_one p grid dies before c.loop-number.placement w.set_terminal.new.self number c.loop-number.slot c.loop-number.invariant
-        (omega (arith, c.loop-number-test.true, c.nets-number-end.ensures.count)) (sym w.if-is_cut.ensures)
-        (w.set_terminal.ensures ∙ ap (λ centre. with_list c.loop-number.placement (set c.loop-number.placement.terminals number (Some centre))) w.centre.ensures)))
+          subst (λ placed. AreSet p grid dies before placed (number + 1) c.if-is_cut.slot) (sym w.placement-is)
+          (subst (AreSet p grid dies before w.set_terminal.new.self (number + 1)) (sym w.slot-is)
+          (set_one p grid dies before c.loop-number.placement w.set_terminal.new.self number c.loop-number.slot c.loop-number.invariant
+          (omega (arith, c.loop-number-test.true, c.nets-number-end.ensures.count)) (sym w.if-is_cut.ensures)
+          (w.set_terminal.ensures ∙ ap (λ centre. with_list c.loop-number.placement (set c.loop-number.placement.terminals number (Some centre))) w.centre.ensures)))
       | else-is_cut w ↦
-        subst (λ placed. AreSet p grid dies before placed (number + 1) c.if-is_cut.slot) (sym w.placement-is)
-        (subst (AreSet p grid dies before c.loop-number.placement (number + 1)) (sym w.slot-is)
-        (set_no p grid dies before c.loop-number.placement number c.loop-number.slot c.loop-number.invariant (sym w.if-is_cut.ensures)))
+          subst (λ placed. AreSet p grid dies before placed (number + 1) c.if-is_cut.slot) (sym w.placement-is)
+          (subst (AreSet p grid dies before c.loop-number.placement (number + 1)) (sym w.slot-is)
+          (set_no p grid dies before c.loop-number.placement number c.loop-number.slot c.loop-number.invariant (sym w.if-is_cut.ensures)))
     ]
 
 pub returns : goal.returns

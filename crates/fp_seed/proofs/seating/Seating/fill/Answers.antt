@@ -1,4 +1,4 @@
-use Rattle.std.proofs.Common.{◌≡◌, suc, ◌+◌, Err, ◌-◌, length, refl, ap, sym, subst, ◌∙◌, arith}
+use Rattle.std.proofs.Common.{◌≡◌, suc, ◌+◌, Err, ◌-◌, length, ap, sym, subst, ◌∙◌, arith}
 use Rattle.std.proofs.lemmas.List.{length_push}
 use Rattle.fp_score.specs.declared.stop.Stop.TheVariants.{NoRoom}
 use Rattle.fp_score.specs.FirstFit.{filled}
@@ -23,10 +23,11 @@ loop-number-preserved c =
       many = ap length placed.seats_are ∙ length_push seats placed.seat ∙ ap (λ n. n + 1) c.loop-number.invariant.many;
       seating = placed.seating;
       rest = ap (filled p c.args.first left) placed.seats_are ∙ sym (filled_next p c.args.first (length p.cells - c.loop-number.number) left seats placed.seat more placed.next)
-        ∙ c.loop-number.invariant.rest;
+          ∙ c.loop-number.invariant.rest;
     }
 
 pub returns-clause-fills : goal.returns-clause-fills
-returns-clause-fills c =
-    (sym c.loop-number.invariant.rest ∙ filled_whole c.args.problem.now c.args.first (length c.args.problem.now.cells - c.loop-number.number) c.loop-number.self.seats.items (omega arith),
-    c.loop-number.invariant.seating)
+returns-clause-fills c = (
+  sym c.loop-number.invariant.rest ∙ filled_whole c.args.problem.now c.args.first (length c.args.problem.now.cells - c.loop-number.number) c.loop-number.self.seats.items (omega arith),
+  c.loop-number.invariant.seating,
+)

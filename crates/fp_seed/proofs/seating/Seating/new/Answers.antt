@@ -1,4 +1,4 @@
-use Rattle.std.proofs.Common.{[], refl, ap, sym, subst, ◌∙◌}
+use Rattle.std.proofs.Common.{ap, sym, subst, ◌∙◌}
 use Rattle.fp_base.specs.declared.ids.Die.TheVariants.{Top, Bottom}
 use Rattle.fp_place.specs.Areas.{area_on}
 use Rattle.fp_score.specs.FirstFit.{seat_dies}

@@ -1,7 +1,6 @@
 use Rattle.std.proofs.Common.{◌≡◌, ◌++◌, ◌∷◌, [], FitsSigned, w64, refl, ap, ◌∙◌, rules}
 use Rattle.std.proofs.lemmas.Int.{to_z-of_z}
-use Rattle.fp_score.specs.FirstFit.{Seat, seat_on}
-use Rattle.fp_seed.specs.Seats.{IsTaken}
+use Rattle.fp_score.specs.FirstFit.{seat_on}
 use Rattle.fp_seed.proofs.Seated.{has_room_is, seated}
 use Rattle.fp_seed.proofs.seating.Seating.put.Goals as goal
 use Rattle.fp_seed.proofs.seating.Seating.put.Goals.{In_ok-push}

@@ -1,6 +1,6 @@
 use Rattle.std.proofs.Common.{refl}
 use Rattle.fp_base.specs.declared.ids.Die.TheVariants.{Top, Bottom}
-use Rattle.fp_seed.proofs.Seated.{IsHeld, found_holds, all_of_ok, TookCell, took, left_alone}
+use Rattle.fp_seed.proofs.Seated.{IsHeld, found_holds, all_of_ok, took, left_alone}
 use Rattle.fp_seed.proofs.seating.Seating.take.Goals as goal
 use Rattle.fp_seed.proofs.seating.Seating.take.Goals.{In-Top, In-Bottom}
 
@@ -32,7 +32,7 @@ returns-in-Top c =
     let held = on_top (goal.at.returns-in-Top c).In-Top in
     all_of_ok c.take.result _ _ _ _ _ c.take.ensures.x c.take.ensures.ready c.take.ensures.used c.take.ensures.lanes (λ x is_x ready used lanes.
     let here = took p Top c.args.die s.seats.items s.top.used.items c.take.new.self.used.items s.top.first.items s.top.lanes c.take.new.self.lanes c.args.segment c.args.cell x
-      is.top_ready is.top_holds held.within c.requires.next c.in-Top.is is_x used lanes in
+    is.top_ready is.top_holds held.within c.requires.next c.in-Top.is is_x used lanes in
     record {
       x_is = here.x_is;
       seats_are = refl;
@@ -50,7 +50,7 @@ returns-in-Bottom c =
     all_of_ok c.take-in-Bottom.result _ _ _ _ _ c.take-in-Bottom.ensures.x c.take-in-Bottom.ensures.ready c.take-in-Bottom.ensures.used c.take-in-Bottom.ensures.lanes
     (λ x is_x ready used lanes.
     let here = took p Bottom c.args.die s.seats.items s.bottom.used.items c.take-in-Bottom.new.self.used.items s.bottom.first.items s.bottom.lanes c.take-in-Bottom.new.self.lanes
-      c.args.segment c.args.cell x is.bottom_ready is.bottom_holds held.within c.requires.next c.in-Bottom.is is_x used lanes in
+    c.args.segment c.args.cell x is.bottom_ready is.bottom_holds held.within c.requires.next c.in-Bottom.is is_x used lanes in
     record {
       x_is = here.x_is;
       seats_are = refl;

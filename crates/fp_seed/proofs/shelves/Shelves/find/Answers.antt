@@ -1,4 +1,4 @@
-use Rattle.std.proofs.Common.{◌≡◌, ℕ, ◌<◌, ◌≤◌, ◌^◌, ◌&&◌, Bool, true, false, cond, refl, nat_lt, Some, None, length, get_or, set, ap, sym, subst, ◌∙◌, arith}
+use Rattle.std.proofs.Common.{◌≡◌, ℕ, ◌<◌, ◌≤◌, ◌&&◌, Bool, true, false, cond, refl, nat_lt, Some, None, length, get_or, set, ap, sym, subst, ◌∙◌, arith}
 use Rattle.std.proofs.lemmas.List.{get_or_read}
 use Rattle.std.specs.Bool.{then_some}
 use Rattle.fp_tech.specs.Plan.{segments}
@@ -33,7 +33,7 @@ then_some_is false n = refl
 pub returns-clause-room : goal.returns-clause-room
 returns-clause-room g c =
     let takes : (fits c.args.problem.now c.args.cell.0 g.S.Side.DIE && has_room c.args.problem.now c.args.caps.now c.args.cell.0 g.S.Side.DIE) ≡ true =
-      ap (λ die. fits c.args.problem.now c.args.cell.0 die && has_room c.args.problem.now c.args.caps.now c.args.cell.0 die) (sym c.DIE.ensures) ∙ sym c.if-not-takes.ensures in
+    ap (λ die. fits c.args.problem.now c.args.cell.0 die && has_room c.args.problem.now c.args.caps.now c.args.cell.0 die) (sym c.DIE.ensures) ∙ sym c.if-not-takes.ensures in
     let many : c.len.result ≡ length (segments c.args.problem.now.plan g.S.Side.DIE) = omega (arith, c.len.ensures, c.args.self.now.used.ok.0, c.requires.ready.many) in
     c.then_some.ensures ∙ then_some_is (nat_lt c.next_holding-next.result c.len.result) c.next_holding-next.result
     ∙ ap (λ n. cond (nat_lt c.next_holding-next.result n) (Some c.next_holding-next.result) None) many

@@ -1,5 +1,4 @@
-use Rattle.std.proofs.Common.{◌≡◌, ◌≤◌, ◌^◌, [], length, replicate, pos, ap, sym, subst, ◌∙◌, arith, rules}
-use Rattle.fp_tech.specs.Plan.{IsPlan, segments}
+use Rattle.std.proofs.Common.{◌≡◌, [], length, replicate, pos, ap, sym, subst, arith, rules}
 use Rattle.fp_tech.specs.PlanLaws.{few_segments}
 use Rattle.fp_seed.specs.Shelved.{HoldsSeats}
 use Rattle.fp_seed.proofs.Shelved.{holds_none}
