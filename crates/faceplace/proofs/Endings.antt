@@ -1,64 +1,80 @@
--- How each path of the seed ends.
-use Rattle.std.proofs.Common.{◌≡◌, ◌⊎◌, ℕ, ◌≤◌, true, false, List, Option, Some, None, Result, Ok, Err, OnOk, OnErr, is_err, refl, sym, ap, subst, ◌∙◌, arith, inl, inr}
+-- How each path of the program ends, and that what is due has one status.
+use Rattle.std.proofs.Common.{◌≡◌, ◌⊎◌, ℕ, ◌≤◌, true, false, List, [], ◌∷◌, Option, Some, None, Result, Ok, Err, OnOk, OnErr, is_err, refl, sym, ap, subst, ◌∙◌, arith, inl, inr}
 use Rattle.fp_base.specs.Faults.{Rose}
-use Rattle.fp_base.specs.Files.{Files, WhereTold, bytes_of, sets_file, OthersStay}
+use Rattle.fp_base.specs.Files.{Files, bytes_of, sets_file, OthersStay}
 use Rattle.fp_base.specs.FilesLaws.{rose_since}
 use Rattle.fp_netlist.specs.Netlist.{Netlist}
 use Rattle.faceplace.specs.declared.status.Status.{Status}
 use Rattle.faceplace.specs.declared.status.Status.TheVariants as statuses
-use Rattle.faceplace.specs.Request.{Seed}
-use Rattle.faceplace.specs.Report.{Cause, IsMissing, IsLong, IsWrong, HasCause, HoldsProblem, HoldsOnly, input_report}
-use Rattle.faceplace.specs.Seeding.{Seeding, Stopping, IsSeeding, IsStopping, seed_text, IsSeedReport}
+use Rattle.faceplace.specs.Request.{Asked, Seed}
+use Rattle.faceplace.specs.Report.{Cause, IsMissing, IsLong, IsWrong, HasCause, HoldsProblem, HoldsOnly, words_report}
+use Rattle.faceplace.specs.Outcome.{Writing, Outcome, told, IsDue, IsDueAlone}
 use Rattle.faceplace.specs.Status.{code_of, Tells, Refuses}
-use Rattle.faceplace.specs.Run.{Done, NoMemory, BadWords, BadInput, Unfit, Device, Outside, SeedStands, SeedStops, stops_report, EndsAs}
+use Rattle.faceplace.specs.Run.{Outside, EndsAs}
 use Rattle.faceplace.proofs.Seeds.{exclusive}
 
--- the input file was refused
-pub refused : (input output : List ℕ) (cause : Cause) (status : ℕ) (before after : Outside)
-    → WhereTold before.held (λ files. HasCause (bytes_of files input) cause) → after.held ≡ before.held
-    → Refuses (input_report input cause) 3 status before.written after.written before.sink_faults after.sink_faults
-    → EndsAs (Some (Seed input output)) status before after
-refused input output cause status before after told same (inl (is, put)) = (BadInput cause, is, (told, same, put))
-refused input output cause status before after told same (inr (inl (is, rose, front))) = (Device, is, inr (inr (inr (inl (cause, told, same, (rose, front))))))
-refused input output cause status before after told same (inr (inr (is, quiet, steady))) = (NoMemory, is, (same, (quiet, steady)))
+-- a refusal that is due was told
+pub refused : (asked : Option Asked) (refusal status : ℕ) (report : List ℕ) (old new : Outside) → IsDueAlone asked old.held (told refusal report) → new.held ≡ old.held
+    → Refuses report refusal status old.written new.written old.sink_faults new.sink_faults → EndsAs asked status old new
+refused asked refusal status report old new due same (inl (is, put)) =
+    inl (record { outcome = told refusal report; due = due; status_is = is; files = same; reports = put })
+refused asked refusal status report old new due same (inr (inl (is, rose, front))) =
+    inr (inr (inr (inr (record { outcome = told refusal report; due = due; status_is = is; files = same; rose = rose; front = front }))))
+refused asked refusal status report old new due same (inr (inr (is, quiet, steady))) = inr (inl (record { status_is = is; files = same; nothing = (quiet, steady) }))
 
--- neither first fit stands
-pub stopped : (input output : List ℕ) (s : Stopping) (status : ℕ) (before after : Outside) → SeedStops input before s → after.held ≡ before.held
-    → Refuses (stops_report s) 4 status before.written after.written before.sink_faults after.sink_faults
-    → EndsAs (Some (Seed input output)) status before after
-stopped input output s status before after stops same (inl (is, put)) = (Unfit s, is, (stops, same, put))
-stopped input output s status before after stops same (inr (inl (is, rose, front))) = (Device, is, inr (inr (inr (inr (s, stops, same, (rose, front))))))
-stopped input output s status before after stops same (inr (inr (is, quiet, steady))) = (NoMemory, is, (same, (quiet, steady)))
+-- the words are no request
+pub no_request : (status : Status) (old new : Outside) → new.held ≡ old.held
+    → Tells words_report statuses.BadWords status old.written new.written old.sink_faults new.sink_faults → EndsAs None (code_of status) old new
+no_request status old new same (inl (is, put)) = refused None 2 (code_of status) words_report old new refl same (inl (ap code_of is, put))
+no_request status old new same (inr (is, rose, front)) = refused None 2 (code_of status) words_report old new refl same (inr (inl (ap code_of is, rose, front)))
 
--- the output file was not written
-pub unwritten : {T E : Type 0} (result : Result T E) (input output : List ℕ) (s : Seeding) (before mid after : Outside) → is_err result ≡ true → SeedStands input before s
-    → mid.held ≡ before.held → before.folder_faults ≤ mid.folder_faults
-    → OthersStay output mid.held after.held → OnErr result (Rose mid.folder_faults after.folder_faults)
-    → after.written ≡ before.written → after.sink_faults ≡ before.sink_faults
-    → EndsAs (Some (Seed input output)) 6 before after
-unwritten (Ok x) input output s before mid after err stands same le others rose quiet steady = absurd cc
-unwritten (Err e) input output s before mid after err stands same le others rose quiet steady = (
-  Device,
-  refl,
-  inr (inl (
-    rose_since before.folder_faults mid.folder_faults after.folder_faults le rose,
-    (s, stands),
-    subst (λ (held : Option Files). OthersStay output held after.held) same others,
-    (quiet, steady),
-  )),
-)
+-- the folder failed at reading
+pub unread : (asked : Asked) (old new : Outside) → Rose old.folder_faults new.folder_faults → new.held ≡ old.held → new.written ≡ old.written → new.sink_faults ≡ old.sink_faults
+    → EndsAs (Some asked) 6 old new
+unread asked old new rose same quiet steady = inr (inr (inl (record { request = refl; status_is = refl; rose = rose; files = same; nothing = (quiet, steady) })))
 
--- the output file was written, and the report told
-pub told : {T E : Type 0} (result : Result T E) (input output report text : List ℕ) (s : Seeding) (status : Status) (before mid after : Outside) → is_err result ≡ false → SeedStands input before s
-    → mid.held ≡ before.held → IsSeedReport s report → text ≡ seed_text s
-    → OnOk result (after.held ≡ sets_file output (λ _. text) mid.held)
-    → Tells report statuses.Done status before.written after.written before.sink_faults after.sink_faults
-    → EndsAs (Some (Seed input output)) (code_of status) before after
-told (Err e) input output report text s status before mid after ok stands same reported text_is set tells = absurd cc
-told (Ok x) input output report text s status before mid after ok stands same reported text_is set (inl (is, put)) =
-    (Done s, ap code_of is, (stands, set ∙ ap (sets_file output (λ _. text)) same ∙ ap (λ (t : List ℕ). sets_file output (λ _. t) before.held) text_is, (report, reported, put)))
-told (Ok x) input output report text s status before mid after ok stands same reported text_is set (inr (is, rose, front)) =
-    (Device, ap code_of is, inr (inr (inl (s, stands, set ∙ ap (sets_file output (λ _. text)) same ∙ ap (λ (t : List ℕ). sets_file output (λ _. t) before.held) text_is, (report, reported, (rose, front))))))
+-- memory ran out
+pub wanting : (asked : Option Asked) (old new : Outside) → new.held ≡ old.held → new.written ≡ old.written → new.sink_faults ≡ old.sink_faults → EndsAs asked 1 old new
+wanting asked old new same quiet steady = inr (inl (record { status_is = refl; files = same; nothing = (quiet, steady) }))
+
+-- the file that is due was not written
+pub unwritten : {T E : Type 0} (result : Result T E) (asked : Option Asked) (status : ℕ) (report : List ℕ) (writing : Writing) (old mid new : Outside) → is_err result ≡ true
+    → IsDueAlone asked old.held (record { status = status; report = report; writings = writing ∷ [] })
+    → mid.held ≡ old.held → old.folder_faults ≤ mid.folder_faults → OthersStay writing.name mid.held new.held → OnErr result (Rose mid.folder_faults new.folder_faults)
+    → new.written ≡ old.written → new.sink_faults ≡ old.sink_faults → EndsAs asked 6 old new
+unwritten (Ok x) asked status report writing old mid new err due same le others rose quiet steady = absurd cc
+unwritten (Err e) asked status report writing old mid new err due same le others rose quiet steady = inr (inr (inr (inl (record {
+  outcome = record { status = status; report = report; writings = writing ∷ [] };
+  due = due;
+  writing = writing;
+  one = refl;
+  status_is = refl;
+  rose = rose_since old.folder_faults mid.folder_faults new.folder_faults le rose;
+  files = subst (λ (held : Option Files). OthersStay writing.name held new.held) same others;
+  nothing = (quiet, steady);
+}))))
+
+-- it was written, and the report told
+pub written : {T E : Type 0} (result : Result T E) (asked : Option Asked) (report : List ℕ) (writing : Writing) (status : Status) (old mid new : Outside) → is_err result ≡ false
+    → IsDueAlone asked old.held (record { status = 0; report = report; writings = writing ∷ [] })
+    → mid.held ≡ old.held → OnOk result (new.held ≡ sets_file writing.name (λ _. writing.text) mid.held)
+    → Tells report statuses.Done status old.written new.written old.sink_faults new.sink_faults → EndsAs asked (code_of status) old new
+written (Err e) asked report writing status old mid new ok due same set tells = absurd cc
+written (Ok x) asked report writing status old mid new ok due same set (inl (is, put)) = inl (record {
+  outcome = record { status = 0; report = report; writings = writing ∷ [] };
+  due = due;
+  status_is = ap code_of is;
+  files = set ∙ ap (sets_file writing.name (λ _. writing.text)) same;
+  reports = put;
+})
+written (Ok x) asked report writing status old mid new ok due same set (inr (is, rose, front)) = inr (inr (inr (inr (record {
+  outcome = record { status = 0; report = report; writings = writing ∷ [] };
+  due = due;
+  status_is = ap code_of is;
+  files = set ∙ ap (sets_file writing.name (λ _. writing.text)) same;
+  rose = rose;
+  front = front;
+}))))
 
 -- what reads has no cause of a refusal
 refuted : (bytes : Option (List ℕ)) (p : Netlist) (cause : Cause) → HoldsProblem bytes p → HasCause bytes cause → ⊥
@@ -67,50 +83,44 @@ refuted (Some bytes) p IsMissing holds has = has
 refuted (Some bytes) p IsLong holds has = omega (arith, holds.0)
 refuted (Some bytes) p (IsWrong at kind) holds has = has.2 holds.1.0 holds.1.1
 
--- what a name holds says one problem
-says_once : (bytes : Option (List ℕ)) (p q : Netlist) → HoldsProblem bytes p → HoldsOnly bytes q → p ≡ q
-says_once None p q holds only = absurd holds
-says_once (Some bytes) p q holds only = only.2 p holds.1
+-- what a name holds alone it holds, and so it says one problem
+holds_so : (bytes : Option (List ℕ)) (p : Netlist) → HoldsOnly bytes p → HoldsProblem bytes p
+holds_so None p only = only
+holds_so (Some bytes) p only = (only.0, only.1)
 
--- where the folder tells, so it is of the files
-of_files : (told : Option Files) (files : Files) (P : Files → Type 0) → told ≡ Some files → WhereTold told P → P files
-of_files told files P is holds = subst (λ (o : Option Files). WhereTold o P) is holds
+says_once : (bytes : Option (List ℕ)) (p q : Netlist) → HoldsOnly bytes p → HoldsProblem bytes q → q ≡ p
+says_once None p q only holds = absurd holds
+says_once (Some bytes) p q only holds = only.2 q holds.1
 
--- An input file whose seed stands is seeded, or memory ran out, where no device failed.
-pub seeded : (input output : List ℕ) (files : Files) (s : Seeding) (status : ℕ) (before after : Outside) → before.held ≡ Some files → HoldsProblem (bytes_of files input) s.problem → IsSeeding s
-    → (Rose before.folder_faults after.folder_faults → ⊥) → (Rose before.sink_faults after.sink_faults → ⊥)
-    → EndsAs (Some (Seed input output)) status before after → (status ≡ 0) ⊎ (status ≡ 1)
-seeded input output files s status before after held holds is_s steady quiet (Done found, is, end) = inl is
-seeded input output files s status before after held holds is_s steady quiet (NoMemory, is, end) = inr is
-seeded input output files s status before after held holds is_s steady quiet (BadWords, is, end) = absurd end
-seeded input output files s status before after held holds is_s steady quiet (BadInput cause, is, end) =
-    absurd (refuted (bytes_of files input) s.problem cause holds (of_files before.held files (λ fs. HasCause (bytes_of fs input) cause) held end.0))
-seeded input output files s status before after held holds is_s steady quiet (Unfit t, is, end) =
-    let one = says_once (bytes_of files input) s.problem t.problem holds (of_files before.held files (λ fs. HoldsOnly (bytes_of fs input) t.problem) held end.0.0) in
-    absurd (exclusive s t one is_s end.0.1)
-seeded input output files s status before after held holds is_s steady quiet (Device, is, inl end) = absurd (steady end.0)
-seeded input output files s status before after held holds is_s steady quiet (Device, is, inr (inl end)) = absurd (steady end.0)
-seeded input output files s status before after held holds is_s steady quiet (Device, is, inr (inr (inl end))) = absurd (quiet end.3.2.0)
-seeded input output files s status before after held holds is_s steady quiet (Device, is, inr (inr (inr (inl end)))) = absurd (quiet end.3.0)
-seeded input output files s status before after held holds is_s steady quiet (Device, is, inr (inr (inr (inr end)))) = absurd (quiet end.3.0)
+-- the status of an outcome that is this one
+status_of : (a b : Outcome) → a ≡ b → a.status ≡ b.status
+status_of a b is = ap (λ (o : Outcome). o.status) is
 
--- An input file without a seed is told so, or memory ran out, where no device failed.
-pub unseeded : (input output : List ℕ) (files : Files) (t : Stopping) (status : ℕ) (before after : Outside) → before.held ≡ Some files → HoldsProblem (bytes_of files input) t.problem → IsStopping t
-    → (Rose before.folder_faults after.folder_faults → ⊥) → (Rose before.sink_faults after.sink_faults → ⊥)
-    → EndsAs (Some (Seed input output)) status before after → (status ≡ 4) ⊎ (status ≡ 1)
-unseeded input output files t status before after held holds is_t steady quiet (Done s, is, end) =
-    let one = says_once (bytes_of files input) t.problem s.problem holds (of_files before.held files (λ fs. HoldsOnly (bytes_of fs input) s.problem) held end.0.0) in
-    absurd (exclusive s t (sym one) end.0.1 is_t)
-unseeded input output files t status before after held holds is_t steady quiet (NoMemory, is, end) = inr is
-unseeded input output files t status before after held holds is_t steady quiet (BadWords, is, end) = absurd end
-unseeded input output files t status before after held holds is_t steady quiet (BadInput cause, is, end) =
-    absurd (refuted (bytes_of files input) t.problem cause holds (of_files before.held files (λ fs. HasCause (bytes_of fs input) cause) held end.0))
-unseeded input output files t status before after held holds is_t steady quiet (Unfit s, is, end) = inl is
-unseeded input output files t status before after held holds is_t steady quiet (Device, is, inl end) = absurd (steady end.0)
-unseeded input output files t status before after held holds is_t steady quiet (Device, is, inr (inl end)) = absurd (steady end.0)
-unseeded input output files t status before after held holds is_t steady quiet (Device, is, inr (inr (inl end))) = absurd (quiet end.3.2.0)
-unseeded input output files t status before after held holds is_t steady quiet (Device, is, inr (inr (inr (inl end)))) = absurd (quiet end.3.0)
-unseeded input output files t status before after held holds is_t steady quiet (Device, is, inr (inr (inr (inr end)))) = absurd (quiet end.3.0)
+-- what is due has one status
+due_once : (asked : Option Asked) (files : Files) (a b : Outcome) → IsDueAlone asked (Some files) a → IsDue asked (Some files) b → a.status ≡ b.status
+due_once None files a b is_a is_b = status_of a b (is_a ∙ sym is_b)
+due_once (Some (Seed input output)) files a b (inl x) (inl y) = status_of a _ x.is ∙ sym (status_of b _ y.is)
+due_once (Some (Seed input output)) files a b (inl x) (inr (inl y)) = absurd (refuted (bytes_of files input) x.seeding.problem y.cause (holds_so (bytes_of files input) x.seeding.problem x.says) y.has)
+due_once (Some (Seed input output)) files a b (inl x) (inr (inr y)) =
+    absurd (exclusive x.seeding y.stopping (sym (says_once (bytes_of files input) x.seeding.problem y.stopping.problem x.says y.says)) x.stands y.stops)
+due_once (Some (Seed input output)) files a b (inr (inl x)) (inl y) = absurd (refuted (bytes_of files input) y.seeding.problem x.cause y.says x.has)
+due_once (Some (Seed input output)) files a b (inr (inl x)) (inr (inl y)) = status_of a _ x.is ∙ sym (status_of b _ y.is)
+due_once (Some (Seed input output)) files a b (inr (inl x)) (inr (inr y)) = absurd (refuted (bytes_of files input) y.stopping.problem x.cause y.says x.has)
+due_once (Some (Seed input output)) files a b (inr (inr x)) (inl y) =
+    absurd (exclusive y.seeding x.stopping (says_once (bytes_of files input) x.stopping.problem y.seeding.problem x.says y.says) y.stands x.stops)
+due_once (Some (Seed input output)) files a b (inr (inr x)) (inr (inl y)) = absurd (refuted (bytes_of files input) x.stopping.problem y.cause (holds_so (bytes_of files input) x.stopping.problem x.says) y.has)
+due_once (Some (Seed input output)) files a b (inr (inr x)) (inr (inr y)) = status_of a _ x.is ∙ sym (status_of b _ y.is)
+
+-- Where no device fails, the status is that of what is due, or memory ran out.
+pub due_or_wanting : (asked : Option Asked) (files : Files) (outcome : Outcome) (status : ℕ) (old new : Outside) → old.held ≡ Some files → IsDue asked (Some files) outcome
+    → (Rose old.folder_faults new.folder_faults → ⊥) → (Rose old.sink_faults new.sink_faults → ⊥)
+    → EndsAs asked status old new → (status ≡ outcome.status) ⊎ (status ≡ 1)
+due_or_wanting asked files outcome status old new held due steady quiet (inl done) =
+    inl (done.status_is ∙ due_once asked files done.outcome outcome (subst (λ (h : Option Files). IsDueAlone asked h done.outcome) held done.due) due)
+due_or_wanting asked files outcome status old new held due steady quiet (inr (inl w)) = inr w.status_is
+due_or_wanting asked files outcome status old new held due steady quiet (inr (inr (inl r))) = absurd (steady r.rose)
+due_or_wanting asked files outcome status old new held due steady quiet (inr (inr (inr (inl w)))) = absurd (steady w.rose)
+due_or_wanting asked files outcome status old new held due steady quiet (inr (inr (inr (inr r)))) = absurd (quiet r.rose)
 
 -- an option is not both
 pub not_both : {A : Type 0} (o : Option A) (x : A) → o ≡ None → o ≡ Some x → ⊥

@@ -22,7 +22,9 @@ use Rattle.fp_seed.specs.declared.two_fits.Seeded.{Seeded}
 use Rattle.fp_seed.specs.declared.two_fits.SeedFault.TheVariants as faults
 use Rattle.fp_seed.specs.Seeded.{SeedGives, IsSeated}
 use Rattle.fp_seed.specs.SeededLaws.{not_both}
-use Rattle.faceplace.specs.Report.{seed_report}
+use Rattle.fp_base.specs.Files.{Files}
+use Rattle.faceplace.specs.Report.{HoldsOnly, seed_report}
+use Rattle.faceplace.specs.Outcome.{InputSays, SeedStands}
 use Rattle.faceplace.specs.Seeding.{Seeding, Stopping, IsSeeding, IsStopping, seed_text, IsSeedReport, IsLineOf}
 
 -- a seed stands, or both first fits stop
@@ -90,3 +92,16 @@ pub terminal_cut : (p : Netlist) (placed : Placed) (net : ℕ) (centre : Option 
     → slice_get placed.terminals net ≡ Some centre → b ≡ is_some centre → b ≡ is_cut p (dies_of (places_of placed)) net
 terminal_cut p placed net centre b on_cuts below there is =
     is ∙ ap is_some (sym (get_or_from_slice_get placed.terminals net centre None there)) ∙ on_cuts net below
+
+-- what is due where a seed was found
+pub stands_due : (p : Netlist) (found : Seeded) (input output line : List ℕ) (held : Option Files) → InputSays HoldsOnly input held p → SeedGives p (Ok found)
+    → IsLineOf p found.first found.placement line
+    → SeedStands HoldsOnly input output held (record { status = 0; report = line; writings = record { name = output; text = out_text p (drawn_of found.placement) } ∷ [] })
+stands_due p found input output line held says gives line_of = record {
+  seeding = seeding p found gives;
+  says = says;
+  stands = is_seeding p found gives;
+  line = line;
+  reports = line_is p found gives line line_of;
+  is = ap (λ text. record { status = 0; report = line; writings = record { name = output; text = text } ∷ [] }) (text_is p found gives);
+}

@@ -5,4 +5,5 @@ pub mod Causes
 pub mod Status
 pub mod Input
 pub mod Seeding
+pub mod Outcome
 pub mod Run

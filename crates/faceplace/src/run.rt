@@ -2,10 +2,9 @@
 
 ghost use Rattle.std.specs.Prelude.{◌≡◌, ◌⊎◌, ◌≤◌, ℕ, List, length, map, string_bytes, Some};
 ghost use Rattle.fp_base.specs.Faults.{Rose};
-ghost use Rattle.fp_base.specs.Files.{Files, bytes_of};
-ghost use Rattle.faceplace.specs.Request.{asks, Seed};
-ghost use Rattle.faceplace.specs.Report.{HoldsProblem};
-ghost use Rattle.faceplace.specs.Seeding.{Seeding, Stopping, IsSeeding, IsStopping};
+ghost use Rattle.fp_base.specs.Files.{Files};
+ghost use Rattle.faceplace.specs.Request.{asks};
+ghost use Rattle.faceplace.specs.Outcome.{Outcome, IsDue};
 ghost use Rattle.faceplace.specs.Status.{code_of};
 ghost use Rattle.faceplace.specs.Run.{outside, EndsAs};
 
@@ -35,18 +34,11 @@ pub fn run<F: Folder, S: Sink>(alloc: Global, words: &[String], folder: &mut F, 
     ensures ends { EndsAs (asks (map string_bytes words.now)) result
         (outside (F.held folder.old) (S.written out.old) (F.faults folder.old) (S.faults out.old))
         (outside (F.held folder.new) (S.written out.new) (F.faults folder.new) (S.faults out.new)) }
-    // Where an input file that is held says a problem whose seed stands and no device fails, it is done, or memory ran out.
-    ensures complete { (input output : List ℕ) (files : Files) (s : Seeding)
-        → asks (map string_bytes words.now) ≡ Some (Seed input output)
-        → F.held folder.old ≡ Some files → HoldsProblem (bytes_of files input) s.problem → IsSeeding s
+    // Where the folder tells its files and no device fails, the status is that of what the words and the files make due, or memory ran out.
+    ensures complete { (files : Files) (outcome : Outcome)
+        → F.held folder.old ≡ Some files → IsDue (asks (map string_bytes words.now)) (Some files) outcome
         → (Rose (F.faults folder.old) (F.faults folder.new) → ⊥) → (Rose (S.faults out.old) (S.faults out.new) → ⊥)
-        → (result ≡ 0) ⊎ (result ≡ 1) }
-    // Where it says a problem of which neither first fit stands, that is told, or memory ran out.
-    ensures unfit { (input output : List ℕ) (files : Files) (s : Stopping)
-        → asks (map string_bytes words.now) ≡ Some (Seed input output)
-        → F.held folder.old ≡ Some files → HoldsProblem (bytes_of files input) s.problem → IsStopping s
-        → (Rose (F.faults folder.old) (F.faults folder.new) → ⊥) → (Rose (S.faults out.old) (S.faults out.new) → ⊥)
-        → (result ≡ 4) ⊎ (result ≡ 1) }
+        → (result ≡ outcome.status) ⊎ (result ≡ 1) }
 {
     serve(alloc, words, folder, out).code()
 }
