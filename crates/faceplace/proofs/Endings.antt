@@ -6,7 +6,13 @@ use Rattle.fp_base.specs.FilesLaws.{rose_since}
 use Rattle.fp_netlist.specs.Netlist.{Netlist}
 use Rattle.faceplace.specs.declared.status.Status.{Status}
 use Rattle.faceplace.specs.declared.status.Status.TheVariants as statuses
-use Rattle.faceplace.specs.Request.{Asked, Seed}
+use Rattle.fp_place.specs.declared.judge.Subject.{Subject}
+use Rattle.fp_place.specs.Breaks.{IsFirstBreak}
+use Rattle.fp_place.specs.BreaksLaws.{not_both}
+use Rattle.fp_place.specs.Drawing.{Drawing}
+use Rattle.fp_place.specs.Legal.{IsLegal}
+use Rattle.faceplace.specs.Request.{Asked, Seed, Score}
+use Rattle.faceplace.specs.Drawn.{HasOutputCause, HoldsDrawing, HoldsOnlyDrawing}
 use Rattle.faceplace.specs.Report.{Cause, IsMissing, IsLong, IsWrong, HasCause, HoldsProblem, HoldsOnly, words_report}
 use Rattle.faceplace.specs.Outcome.{Writing, Outcome, told, IsDue, IsDueAlone}
 use Rattle.faceplace.specs.Status.{code_of, Tells, Refuses}
@@ -83,33 +89,91 @@ refuted (Some bytes) p IsMissing holds has = has
 refuted (Some bytes) p IsLong holds has = omega (arith, holds.0)
 refuted (Some bytes) p (IsWrong at kind) holds has = has.2 holds.1.0 holds.1.1
 
--- what a name holds alone it holds, and so it says one problem
+undrawn : (p : Netlist) (bytes : Option (List ℕ)) (drawing : Drawing) (cause : Cause) → HoldsDrawing p bytes drawing → HasOutputCause p bytes cause → ⊥
+undrawn p None drawing cause holds has = holds
+undrawn p (Some bytes) drawing IsMissing holds has = has
+undrawn p (Some bytes) drawing IsLong holds has = omega (arith, holds.0)
+undrawn p (Some bytes) drawing (IsWrong at kind) holds has = has.2 drawing holds.1
+
+-- what a name holds alone it holds, and so it says one problem, and one drawing
 holds_so : (bytes : Option (List ℕ)) (p : Netlist) → HoldsOnly bytes p → HoldsProblem bytes p
 holds_so None p only = only
 holds_so (Some bytes) p only = (only.0, only.1)
+
+draws_so : (p : Netlist) (bytes : Option (List ℕ)) (drawing : Drawing) → HoldsOnlyDrawing p bytes drawing → HoldsDrawing p bytes drawing
+draws_so p None drawing only = only
+draws_so p (Some bytes) drawing only = (only.0, only.1)
 
 says_once : (bytes : Option (List ℕ)) (p q : Netlist) → HoldsOnly bytes p → HoldsProblem bytes q → q ≡ p
 says_once None p q only holds = absurd holds
 says_once (Some bytes) p q only holds = only.2 q holds.1
 
+draws_once : (p : Netlist) (bytes : Option (List ℕ)) (a b : Drawing) → HoldsOnlyDrawing p bytes a → HoldsDrawing p bytes b → b ≡ a
+draws_once p None a b only holds = absurd holds
+draws_once p (Some bytes) a b only holds = only.2 b holds.1
+
 -- the status of an outcome that is this one
 status_of : (a b : Outcome) → a ≡ b → a.status ≡ b.status
 status_of a b is = ap (λ (o : Outcome). o.status) is
 
+seed_once : (input output : List ℕ) (files : Files) (a b : Outcome) → IsDueAlone (Some (Seed input output)) (Some files) a → IsDue (Some (Seed input output)) (Some files) b → a.status ≡ b.status
+seed_once input output files a b (inl x) (inl y) = status_of a _ x.is ∙ sym (status_of b _ y.is)
+seed_once input output files a b (inl x) (inr (inl y)) = absurd (refuted (bytes_of files input) y.seeding.problem x.cause y.says x.has)
+seed_once input output files a b (inl x) (inr (inr y)) = absurd (refuted (bytes_of files input) y.stopping.problem x.cause y.says x.has)
+seed_once input output files a b (inr (inl x)) (inl y) = absurd (refuted (bytes_of files input) x.seeding.problem y.cause (holds_so (bytes_of files input) x.seeding.problem x.says) y.has)
+seed_once input output files a b (inr (inl x)) (inr (inl y)) = status_of a _ x.is ∙ sym (status_of b _ y.is)
+seed_once input output files a b (inr (inl x)) (inr (inr y)) =
+    absurd (exclusive x.seeding y.stopping (sym (says_once (bytes_of files input) x.seeding.problem y.stopping.problem x.says y.says)) x.stands y.stops)
+seed_once input output files a b (inr (inr x)) (inl y) = absurd (refuted (bytes_of files input) x.stopping.problem y.cause (holds_so (bytes_of files input) x.stopping.problem x.says) y.has)
+seed_once input output files a b (inr (inr x)) (inr (inl y)) =
+    absurd (exclusive y.seeding x.stopping (says_once (bytes_of files input) x.stopping.problem y.seeding.problem x.says y.says) y.stands x.stops)
+seed_once input output files a b (inr (inr x)) (inr (inr y)) = status_of a _ x.is ∙ sym (status_of b _ y.is)
+
+-- the same problem, of which one file says one drawing
+drawn_apart : (bytes : Option (List ℕ)) (p q : Netlist) (drawing : Drawing) (cause : Cause) → q ≡ p → HoldsDrawing p bytes drawing → HasOutputCause q bytes cause → ⊥
+drawn_apart bytes p q drawing cause same holds has = undrawn p bytes drawing cause holds (subst (λ r. HasOutputCause r bytes cause) same has)
+
+legal_and_broken : (bytes : Option (List ℕ)) (p q : Netlist) (a b : Drawing) (rule : ℕ) (subject : Subject) → q ≡ p → HoldsOnlyDrawing p bytes a → HoldsDrawing q bytes b
+    → IsLegal p a → IsFirstBreak q b rule subject → ⊥
+legal_and_broken bytes p q a b rule subject same only holds legal breaks =
+    let one : b ≡ a = draws_once p bytes a b only (subst (λ r. HoldsDrawing r bytes b) same holds) in
+    not_both p a rule subject legal (subst (λ d. IsFirstBreak p d rule subject) one (subst (λ r. IsFirstBreak r b rule subject) same breaks))
+
+broken_and_legal : (bytes : Option (List ℕ)) (p q : Netlist) (a b : Drawing) (rule : ℕ) (subject : Subject) → q ≡ p → HoldsOnlyDrawing p bytes a → HoldsDrawing q bytes b
+    → IsFirstBreak p a rule subject → IsLegal q b → ⊥
+broken_and_legal bytes p q a b rule subject same only holds breaks legal =
+    let one : b ≡ a = draws_once p bytes a b only (subst (λ r. HoldsDrawing r bytes b) same holds) in
+    not_both p a rule subject (subst (IsLegal p) one (subst (λ r. IsLegal r b) same legal)) breaks
+
+score_once : (input output : List ℕ) (files : Files) (a b : Outcome) → IsDueAlone (Some (Score input output)) (Some files) a → IsDue (Some (Score input output)) (Some files) b → a.status ≡ b.status
+score_once input output files a b (inl x) (inl y) = status_of a _ x.is ∙ sym (status_of b _ y.is)
+score_once input output files a b (inl x) (inr (inl y)) = status_of a _ x.is ∙ sym (status_of b _ y.is)
+score_once input output files a b (inl x) (inr (inr (inl y))) = absurd (refuted (bytes_of files input) y.problem x.cause y.says x.has)
+score_once input output files a b (inl x) (inr (inr (inr y))) = absurd (refuted (bytes_of files input) y.problem x.cause y.says x.has)
+score_once input output files a b (inr (inl x)) (inl y) = status_of a _ x.is ∙ sym (status_of b _ y.is)
+score_once input output files a b (inr (inl x)) (inr (inl y)) = status_of a _ x.is ∙ sym (status_of b _ y.is)
+score_once input output files a b (inr (inl x)) (inr (inr (inl y))) =
+    absurd (drawn_apart (bytes_of files output) y.problem x.problem y.drawing x.cause (sym (says_once (bytes_of files input) x.problem y.problem x.says y.says)) y.draws x.has)
+score_once input output files a b (inr (inl x)) (inr (inr (inr y))) =
+    absurd (drawn_apart (bytes_of files output) y.problem x.problem y.drawing x.cause (sym (says_once (bytes_of files input) x.problem y.problem x.says y.says)) y.draws x.has)
+score_once input output files a b (inr (inr (inl x))) (inl y) = absurd (refuted (bytes_of files input) x.problem y.cause (holds_so (bytes_of files input) x.problem x.says) y.has)
+score_once input output files a b (inr (inr (inl x))) (inr (inl y)) =
+    absurd (drawn_apart (bytes_of files output) x.problem y.problem x.drawing y.cause (says_once (bytes_of files input) x.problem y.problem x.says y.says) (draws_so x.problem (bytes_of files output) x.drawing x.draws) y.has)
+score_once input output files a b (inr (inr (inl x))) (inr (inr (inl y))) = status_of a _ x.is ∙ sym (status_of b _ y.is)
+score_once input output files a b (inr (inr (inl x))) (inr (inr (inr y))) =
+    absurd (legal_and_broken (bytes_of files output) x.problem y.problem x.drawing y.drawing y.rule y.subject (says_once (bytes_of files input) x.problem y.problem x.says y.says) x.draws y.draws x.legal y.breaks)
+score_once input output files a b (inr (inr (inr x))) (inl y) = absurd (refuted (bytes_of files input) x.problem y.cause (holds_so (bytes_of files input) x.problem x.says) y.has)
+score_once input output files a b (inr (inr (inr x))) (inr (inl y)) =
+    absurd (drawn_apart (bytes_of files output) x.problem y.problem x.drawing y.cause (says_once (bytes_of files input) x.problem y.problem x.says y.says) (draws_so x.problem (bytes_of files output) x.drawing x.draws) y.has)
+score_once input output files a b (inr (inr (inr x))) (inr (inr (inl y))) =
+    absurd (broken_and_legal (bytes_of files output) x.problem y.problem x.drawing y.drawing x.rule x.subject (says_once (bytes_of files input) x.problem y.problem x.says y.says) x.draws y.draws x.breaks y.legal)
+score_once input output files a b (inr (inr (inr x))) (inr (inr (inr y))) = status_of a _ x.is ∙ sym (status_of b _ y.is)
+
 -- what is due has one status
 due_once : (asked : Option Asked) (files : Files) (a b : Outcome) → IsDueAlone asked (Some files) a → IsDue asked (Some files) b → a.status ≡ b.status
 due_once None files a b is_a is_b = status_of a b (is_a ∙ sym is_b)
-due_once (Some (Seed input output)) files a b (inl x) (inl y) = status_of a _ x.is ∙ sym (status_of b _ y.is)
-due_once (Some (Seed input output)) files a b (inl x) (inr (inl y)) = absurd (refuted (bytes_of files input) x.seeding.problem y.cause (holds_so (bytes_of files input) x.seeding.problem x.says) y.has)
-due_once (Some (Seed input output)) files a b (inl x) (inr (inr y)) =
-    absurd (exclusive x.seeding y.stopping (sym (says_once (bytes_of files input) x.seeding.problem y.stopping.problem x.says y.says)) x.stands y.stops)
-due_once (Some (Seed input output)) files a b (inr (inl x)) (inl y) = absurd (refuted (bytes_of files input) y.seeding.problem x.cause y.says x.has)
-due_once (Some (Seed input output)) files a b (inr (inl x)) (inr (inl y)) = status_of a _ x.is ∙ sym (status_of b _ y.is)
-due_once (Some (Seed input output)) files a b (inr (inl x)) (inr (inr y)) = absurd (refuted (bytes_of files input) y.stopping.problem x.cause y.says x.has)
-due_once (Some (Seed input output)) files a b (inr (inr x)) (inl y) =
-    absurd (exclusive y.seeding x.stopping (says_once (bytes_of files input) x.stopping.problem y.seeding.problem x.says y.says) y.stands x.stops)
-due_once (Some (Seed input output)) files a b (inr (inr x)) (inr (inl y)) = absurd (refuted (bytes_of files input) x.stopping.problem y.cause (holds_so (bytes_of files input) x.stopping.problem x.says) y.has)
-due_once (Some (Seed input output)) files a b (inr (inr x)) (inr (inr y)) = status_of a _ x.is ∙ sym (status_of b _ y.is)
+due_once (Some (Seed input output)) files a b is_a is_b = seed_once input output files a b is_a is_b
+due_once (Some (Score input output)) files a b is_a is_b = score_once input output files a b is_a is_b
 
 -- Where no device fails, the status is that of what is due, or memory ran out.
 pub due_or_wanting : (asked : Option Asked) (files : Files) (outcome : Outcome) (status : ℕ) (old new : Outside) → old.held ≡ Some files → IsDue asked (Some files) outcome
@@ -121,7 +185,3 @@ due_or_wanting asked files outcome status old new held due steady quiet (inr (in
 due_or_wanting asked files outcome status old new held due steady quiet (inr (inr (inl r))) = absurd (steady r.rose)
 due_or_wanting asked files outcome status old new held due steady quiet (inr (inr (inr (inl w)))) = absurd (steady w.rose)
 due_or_wanting asked files outcome status old new held due steady quiet (inr (inr (inr (inr r)))) = absurd (quiet r.rose)
-
--- an option is not both
-pub not_both : {A : Type 0} (o : Option A) (x : A) → o ≡ None → o ≡ Some x → ⊥
-not_both o x none some = absurd cc

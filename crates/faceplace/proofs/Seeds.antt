@@ -1,5 +1,5 @@
 -- What the seed's crate answers, as the program's endings say it.
-use Rattle.std.proofs.Common.{◌≡◌, ℕ, suc, ◌+◌, ◌<◌, Bool, cond, List, [], ◌∷◌, length, Option, Some, None, Ok, Err, refl, sym, ap, subst, ◌∙◌, arith}
+use Rattle.std.proofs.Common.{◌≡◌, ℕ, suc, ◌+◌, ◌<◌, Bool, true, cond, List, [], ◌∷◌, length, Option, Some, None, Ok, Err, refl, sym, ap, subst, ◌∙◌, arith}
 use Rattle.std.specs.Prelude.{is_some, slice_get}
 use Rattle.std.proofs.lemmas.Option.{get_or_from_slice_get}
 use Rattle.fp_base.specs.declared.ids.Point.{Point}
@@ -23,7 +23,7 @@ use Rattle.fp_seed.specs.declared.two_fits.SeedFault.TheVariants as faults
 use Rattle.fp_seed.specs.Seeded.{SeedGives, IsSeated}
 use Rattle.fp_seed.specs.SeededLaws.{not_both}
 use Rattle.fp_base.specs.Files.{Files}
-use Rattle.faceplace.specs.Report.{HoldsOnly, seed_report}
+use Rattle.faceplace.specs.Report.{seed_report}
 use Rattle.faceplace.specs.Outcome.{InputSays, SeedStands}
 use Rattle.faceplace.specs.Seeding.{Seeding, Stopping, IsSeeding, IsStopping, seed_text, IsSeedReport, IsLineOf}
 
@@ -94,9 +94,9 @@ terminal_cut p placed net centre b on_cuts below there is =
     is ∙ ap is_some (sym (get_or_from_slice_get placed.terminals net centre None there)) ∙ on_cuts net below
 
 -- what is due where a seed was found
-pub stands_due : (p : Netlist) (found : Seeded) (input output line : List ℕ) (held : Option Files) → InputSays HoldsOnly input held p → SeedGives p (Ok found)
+pub stands_due : (p : Netlist) (found : Seeded) (input output line : List ℕ) (held : Option Files) → InputSays true input held p → SeedGives p (Ok found)
     → IsLineOf p found.first found.placement line
-    → SeedStands HoldsOnly input output held (record { status = 0; report = line; writings = record { name = output; text = out_text p (drawn_of found.placement) } ∷ [] })
+    → SeedStands true input output held (record { status = 0; report = line; writings = record { name = output; text = out_text p (drawn_of found.placement) } ∷ [] })
 stands_due p found input output line held says gives line_of = record {
   seeding = seeding p found gives;
   says = says;

@@ -3,7 +3,10 @@ pub mod Asked
 pub mod Report
 pub mod Causes
 pub mod Status
+pub mod Subjects
 pub mod Input
 pub mod Seeding
+pub mod Drawn
 pub mod Outcome
+pub mod Judging
 pub mod Run

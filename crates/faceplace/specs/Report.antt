@@ -6,6 +6,8 @@ use Rattle.fp_text.specs.declared.fault.Kind.{Kind}
 use Rattle.fp_text.specs.declared.fault.Kind.TheVariants.{Ended, Word, Number, Name, Twice, Unknown, Range, Rows, Limit, Trailing}
 use Rattle.fp_text.specs.Reading.{fault}
 use Rattle.fp_netlist.specs.Netlist.{Netlist, cell_names}
+use Rattle.fp_place.specs.declared.judge.Subject.{Subject}
+use Rattle.fp_place.specs.declared.judge.Subject.TheVariants.{Cell, Net, Side}
 use Rattle.fp_score.specs.declared.stop.Stop.{Stop}
 use Rattle.fp_score.specs.declared.stop.Stop.TheVariants.{NoRoom, NoSlots}
 use Rattle.fp_contest_in.specs.Text.{ProblemText, netlist_of}
@@ -84,3 +86,17 @@ stop_text p (NoSlots cut slots) = codes "slots " ++ decimal cut ++ codes " " ++ 
 -- `unfit top STOP bottom STOP`
 abbrev pub unfit_report : Netlist → Stop → Stop → List ℕ
 unfit_report p top_first bottom_first = codes "unfit top " ++ stop_text p top_first ++ codes " bottom " ++ stop_text p bottom_first ++ codes "\n"
+
+-- `score S`
+abbrev pub score_report : ℕ → List ℕ
+score_report total = codes "score " ++ decimal total ++ codes "\n"
+
+-- what breaks a rule: a cell's or a net's name, `top` or `bottom`
+abbrev pub subject_text : Netlist → Subject → List ℕ
+subject_text p (Cell cell) = unwrap_or (slice_get (cell_names p) cell.0) []
+subject_text p (Net net) = unwrap_or (slice_get p.nets net.0) []
+subject_text p (Side die) = die_text die
+
+-- `broken RULE SUBJECT`
+abbrev pub broken_report : Netlist → ℕ → Subject → List ℕ
+broken_report p rule subject = codes "broken " ++ decimal rule ++ codes " " ++ subject_text p subject ++ codes "\n"

@@ -3,7 +3,7 @@ use Rattle.std.specs.Prelude.{◌≡◌, ◌⊎◌, ℕ, List, Option}
 use Rattle.fp_base.specs.Faults.{Rose}
 use Rattle.fp_base.specs.Files.{followed_by, FrontFollows}
 use Rattle.faceplace.specs.declared.status.Status.{Status}
-use Rattle.faceplace.specs.declared.status.Status.TheVariants.{Done, NoMemory, BadWords, BadInput, Unfit, Device}
+use Rattle.faceplace.specs.declared.status.Status.TheVariants.{Done, NoMemory, BadWords, BadInput, Unfit, Broken, Device}
 
 abbrev pub code_of : Status → ℕ
 code_of Done = 0
@@ -11,6 +11,7 @@ code_of NoMemory = 1
 code_of BadWords = 2
 code_of BadInput = 3
 code_of Unfit = 4
+code_of Broken = 5
 code_of Device = 6
 
 -- a report was put whole, and the status stands; or the sink failed, and a front of the report was put

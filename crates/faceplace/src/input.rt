@@ -1,20 +1,22 @@
-//! Reading an input file of the folder.
+//! Reading the files of a request.
 
 ghost use Rattle.std.specs.Prelude.{◌≡◌, ◌≤◌, IsErrOf};
 ghost use Rattle.fp_base.specs.Faults.{Rose};
-ghost use Rattle.faceplace.specs.Input.{GivesInput};
+ghost use Rattle.faceplace.specs.Input.{GivesFile, GivesInput, GivesOutput, stop_of};
 
 use crate::report::Cause;
 use fp_base::Folder;
 use fp_contest_in::read_problem;
 use fp_netlist::Problem;
+use fp_out::read_out;
+use fp_place::Drawn;
 use fp_text::{TextFault, WholeFault, read_whole};
 use std::alloc::Global;
 
-/// The greatest length of an input file, in bytes.
-const MOST_INPUT: u64 = 1 << 28;
+/// The greatest length of a file that is read, in bytes.
+const MOST_BYTES: u64 = 1 << 28;
 
-/// Why there is no problem.
+/// Why a file gives nothing.
 #[derive(Clone, Copy, Debug, PartialEq, Eq)]
 pub enum Stop {
     /// Memory was asked for and refused.
@@ -25,6 +27,32 @@ pub enum Stop {
     Refused(Cause),
 }
 
+/// The bytes of a file.
+fn read_file<F: Folder>(alloc: Global, folder: &mut F, name: &str) -> Result<Vec<u8>, Stop>
+    ensures gives { GivesFile (F.held folder.old) name.now result }
+    ensures device { IsErrOf result Stop.Device → Rose (F.faults folder.old) (F.faults folder.new) }
+    ensures held { F.held folder.new ≡ F.held folder.old }
+    ensures later { F.faults folder.old ≤ F.faults folder.new }
+{
+    match read_whole(alloc, folder, name, MOST_BYTES) {
+        Ok(bytes) => Ok(bytes),
+        Err(WholeFault::Missing) => Err(Stop::Refused(Cause::Missing)),
+        Err(WholeFault::Long) => Err(Stop::Refused(Cause::Long)),
+        Err(WholeFault::Device) => Err(Stop::Device),
+        Err(WholeFault::Memory) => Err(Stop::Memory),
+    }
+}
+
+// Why bytes that were read give nothing.
+fn stop_of(fault: TextFault) -> Stop
+    ensures { result ≡ stop_of fault }
+{
+    match fault {
+        TextFault::Wrong { at, kind } => Stop::Refused(Cause::Wrong { at, kind }),
+        TextFault::Memory => Stop::Memory,
+    }
+}
+
 /// The problem of an input file.
 pub fn read_input<F: Folder>(alloc: Global, folder: &mut F, name: &str) -> Result<Problem, Stop>
     ensures gives { GivesInput (F.held folder.old) name.now result }
@@ -32,16 +60,28 @@ pub fn read_input<F: Folder>(alloc: Global, folder: &mut F, name: &str) -> Resul
     ensures held { F.held folder.new ≡ F.held folder.old }
     ensures later { F.faults folder.old ≤ F.faults folder.new }
 {
-    let bytes = match read_whole(alloc, folder, name, MOST_INPUT) {
-        Ok(bytes) => bytes,
-        Err(WholeFault::Missing) => return Err(Stop::Refused(Cause::Missing)),
-        Err(WholeFault::Long) => return Err(Stop::Refused(Cause::Long)),
-        Err(WholeFault::Device) => return Err(Stop::Device),
-        Err(WholeFault::Memory) => return Err(Stop::Memory),
-    };
+    let bytes = read_file(alloc, folder, name)?;
     match read_problem(alloc, &bytes) {
         Ok(problem) => Ok(problem),
-        Err(TextFault::Wrong { at, kind }) => Err(Stop::Refused(Cause::Wrong { at, kind })),
-        Err(TextFault::Memory) => Err(Stop::Memory),
+        Err(fault) => Err(stop_of(fault)),
+    }
+}
+
+/// The drawing of an output file for a problem.
+pub fn read_output<F: Folder>(
+    alloc: Global,
+    folder: &mut F,
+    problem: &Problem,
+    name: &str,
+) -> Result<Drawn, Stop>
+    ensures gives { GivesOutput problem.now (F.held folder.old) name.now result }
+    ensures device { IsErrOf result Stop.Device → Rose (F.faults folder.old) (F.faults folder.new) }
+    ensures held { F.held folder.new ≡ F.held folder.old }
+    ensures later { F.faults folder.old ≤ F.faults folder.new }
+{
+    let bytes = read_file(alloc, folder, name)?;
+    match read_out(alloc, problem, &bytes) {
+        Ok(drawn) => Ok(drawn),
+        Err(fault) => Err(stop_of(fault)),
     }
 }

@@ -1,4 +1,5 @@
-//! The program `faceplace`: `faceplace seed IN OUT` writes the first-fit placement of a contest input.
+//! The program `faceplace`: `seed IN OUT` writes the first-fit placement of a contest input, `score IN OUT` judges and scores an output
+//! file.
 #![tactic(auto)]
 
 mod input;
@@ -6,6 +7,7 @@ mod refusal;
 mod report;
 mod request;
 mod run;
+mod score;
 mod seed;
 mod status;
 

@@ -2,11 +2,13 @@
 
 ghost use Rattle.std.specs.Prelude.{◌≡◌, ◌++◌, IfOk, string_bytes, codes, decimal};
 ghost use Rattle.fp_score.specs.FirstFitLaws.{IsStopOf};
-ghost use Rattle.faceplace.specs.Report.{die_text, kind_text, input_report, seed_report, stop_text, unfit_report};
+ghost use Rattle.faceplace.specs.Report.{die_text, kind_text, input_report, seed_report, stop_text, unfit_report, score_report, subject_text, broken_report};
+ghost use Rattle.faceplace.specs.Subjects.{IsSubjectOf};
 ghost use Rattle.faceplace.specs.Causes.{cause_of};
 
 use fp_base::Die;
 use fp_netlist::Problem;
+use fp_place::Subject;
 use fp_score::Stop;
 use fp_text::Kind;
 use std::alloc::{AllocError, Global};
@@ -123,6 +125,42 @@ pub fn unfit_report(
     report.extend_from_slice(&stop_report(alloc, problem, top_first)?)?;
     report.extend_from_slice(b" bottom ")?;
     report.extend_from_slice(&stop_report(alloc, problem, bottom_first)?)?;
+    report.extend_from_slice(b"\n")?;
+    Ok(report)
+}
+
+/// `score S`, for an output file that is legal.
+pub fn score_report(alloc: Global, total: u64) -> Result<String, AllocError>
+    ensures { IfOk result (λ report. string_bytes report ≡ score_report total) }
+{
+    format!(in alloc; "score {total}\n")
+}
+
+/// The name of what breaks a rule.
+fn subject_word(problem: &Problem, subject: Subject) -> &[u8]
+    requires { IsSubjectOf problem.now subject }
+    ensures { result.now ≡ subject_text problem.now subject }
+{
+    match subject {
+        Subject::Cell(cell) => problem.cell_name(cell),
+        Subject::Net(net) => problem.net_name(net),
+        Subject::Side(die) => die_word(die).as_bytes(),
+    }
+}
+
+/// `broken RULE SUBJECT`, for an output file that breaks a rule.
+pub fn broken_report(
+    alloc: Global,
+    problem: &Problem,
+    rule: u8,
+    subject: Subject,
+) -> Result<Vec<u8>, AllocError>
+    requires { IsSubjectOf problem.now subject }
+    ensures { IfOk result (λ report. report.items ≡ broken_report problem.now rule subject) }
+{
+    let head = format!(in alloc; "broken {rule} ")?;
+    let mut report = head.into_bytes();
+    report.extend_from_slice(subject_word(problem, subject))?;
     report.extend_from_slice(b"\n")?;
     Ok(report)
 }

@@ -9,6 +9,8 @@ ghost use Rattle.faceplace.specs.Asked.{asked_of};
 pub enum Request<'a> {
     /// `seed IN OUT`: the first-fit placement of an input file is written to an output file.
     Seed { input: &'a str, output: &'a str },
+    /// `score IN OUT`: the verdict on an output file, and its score.
+    Score { input: &'a str, output: &'a str },
 }
 
 /// The request that the words ask for; none where they ask for nothing.
@@ -19,10 +21,13 @@ pub fn request_of(words: &[String]) -> Option<Request<'_>>
         [command, input, output] => {
             let input = input.as_str();
             let output = output.as_str();
-            if command.as_str() == "seed" && input != output {
-                Some(Request::Seed { input, output })
-            } else {
-                None
+            if input == output {
+                return None;
+            }
+            match command.as_str() {
+                "seed" => Some(Request::Seed { input, output }),
+                "score" => Some(Request::Score { input, output }),
+                _ => None,
             }
         }
         _ => None,

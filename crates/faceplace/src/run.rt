@@ -9,6 +9,7 @@ ghost use Rattle.faceplace.specs.Status.{code_of};
 ghost use Rattle.faceplace.specs.Run.{outside, EndsAs};
 
 use crate::request::{Request, request_of};
+use crate::score::run_score;
 use crate::seed::run_seed;
 use crate::status::{Status, tell};
 use fp_base::{Folder, Sink};
@@ -23,13 +24,14 @@ fn serve<F: Folder, S: Sink>(alloc: Global, words: &[String], folder: &mut F, ou
     match request_of(words) {
         None => tell(out, b"words\n", Status::BadWords),
         Some(Request::Seed { input, output }) => run_seed(alloc, input, output, folder, out),
+        Some(Request::Score { input, output }) => run_score(alloc, input, output, folder, out),
     }
 }
 
 /// Does what the words ask for, and answers the exit status:
-/// 0 where it is done, 1 for want of memory, 2 where the words are no request, 3 where the input file is
-/// not held, too long or not in its grammar, 4 where neither first fit of the input stands, and 6 where the folder's or the sink's
-/// faults rose.
+/// 0 where it is done, 1 for want of memory, 2 where the words are no request, 3 where a file to be read is not held, too long or
+/// not in its grammar, 4 where neither first fit of the input stands, 5 where the output file breaks a rule, and 6 where the folder's
+/// or the sink's faults rose.
 pub fn run<F: Folder, S: Sink>(alloc: Global, words: &[String], folder: &mut F, out: &mut S) -> u8
     ensures ends { EndsAs (asks (map string_bytes words.now)) result
         (outside (F.held folder.old) (S.written out.old) (F.faults folder.old) (S.faults out.old))

@@ -18,6 +18,8 @@ pub enum Status {
     BadInput,
     /// No first fit of the input stands.
     Unfit,
+    /// The output file breaks a rule.
+    Broken,
     /// A device failed.
     Device,
 }
@@ -33,6 +35,7 @@ impl Status {
             Status::BadWords => 2,
             Status::BadInput => 3,
             Status::Unfit => 4,
+            Status::Broken => 5,
             Status::Device => 6,
         }
     }

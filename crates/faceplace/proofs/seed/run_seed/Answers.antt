@@ -24,7 +24,7 @@ returns-in-Err-Refused g c =
     refused (Some (Seed c.args.input.now c.args.output.now)) 3 _ (input_report c.args.input.now (cause_of c.in-Err-Refused.cause))
     (outside (held c.args.folder.now) (put c.args.out.now) (folder_faults c.args.folder.now) (sink_faults c.args.out.now))
     (outside (held c.read_input.new.folder) (put c.refuse.new.out) (folder_faults c.read_input.new.folder) (sink_faults c.refuse.new.out))
-    (inr (inl (record { cause = cause_of c.in-Err-Refused.cause; has = rw c.in-Err-Refused.field-0-is at c.in-Err-Refused.ensures.gives; is = refl })))
+    (inl (record { cause = cause_of c.in-Err-Refused.cause; has = rw c.in-Err-Refused.field-0-is at c.in-Err-Refused.ensures.gives; is = refl }))
     c.read_input.ensures.held c.refuse.ensures
 
 pub unfit-requires-clause-top : goal.unfit-requires-clause-top
@@ -64,7 +64,7 @@ returns-then-is_err g c =
     (outside (held c.read_input.new.folder) (put c.args.out.now) (folder_faults c.read_input.new.folder) (sink_faults c.args.out.now))
     (outside (held c.write_out.new.folder) (put c.args.out.now) (folder_faults c.write_out.new.folder) (sink_faults c.args.out.now))
     (sym c.is_err.ensures.value ∙ c.if-is_err.true)
-    (inl (stands_due c.in-Ok.problem c.in-Ok-seed.seeded c.args.input.now c.args.output.now _ (held c.args.folder.now) c.in-Ok.ensures.gives c.in-Ok-seed.ensures.seed c.in-Ok-line_of.ensures))
+    (inr (inl (stands_due c.in-Ok.problem c.in-Ok-seed.seeded c.args.input.now c.args.output.now _ (held c.args.folder.now) c.in-Ok.ensures.gives c.in-Ok-seed.ensures.seed c.in-Ok-line_of.ensures)))
     c.read_input.ensures.held c.read_input.ensures.later c.write_out.ensures.others c.write_out.ensures.cause refl refl
 
 pub returns : goal.returns
@@ -79,6 +79,6 @@ returns g c =
     (outside (held c.read_input.new.folder) (put c.args.out.now) (folder_faults c.read_input.new.folder) (sink_faults c.args.out.now))
     (outside (held c.write_out.new.folder) (put c.tell.new.out) (folder_faults c.write_out.new.folder) (sink_faults c.tell.new.out))
     (sym c.is_err.ensures.value ∙ c.if-is_err.false)
-    (inl (stands_due c.in-Ok.problem c.in-Ok-seed.seeded c.args.input.now c.args.output.now c.as_bytes.result.now (held c.args.folder.now) c.in-Ok.ensures.gives c.in-Ok-seed.ensures.seed
-    (rw c.as_bytes.ensures.value c.in-Ok-line_of.ensures)))
+    (inr (inl (stands_due c.in-Ok.problem c.in-Ok-seed.seeded c.args.input.now c.args.output.now c.as_bytes.result.now (held c.args.folder.now) c.in-Ok.ensures.gives c.in-Ok-seed.ensures.seed
+    (rw c.as_bytes.ensures.value c.in-Ok-line_of.ensures))))
     c.read_input.ensures.held c.write_out.ensures.written c.tell.ensures.tells
