@@ -1,3 +1,7 @@
 mod Adding
+mod DrawingRead
+mod Known
+mod LinesRead
 mod Lists
+mod OutAgree
 mod Texts

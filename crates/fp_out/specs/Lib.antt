@@ -1,2 +1,5 @@
 pub mod OutText
 pub mod OutTextLaws
+pub mod OutGrammar
+pub mod OutReading
+pub mod Growing

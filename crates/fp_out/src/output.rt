@@ -38,7 +38,7 @@ pub fn write_out<F: Folder>(
 }
 
 /// The word of a die's head line.
-fn word_of(die: Die) -> &'static [u8]
+pub fn word_of(die: Die) -> &'static [u8]
     ensures { result.now ≡ die_word die }
 {
     match die {

@@ -1,9 +1,20 @@
-//! What no clause says: the lines as they are printed.
+//! What no clause says: the lines as they are printed and read, and that memory is enough.
+
+ghost use Rattle.std.specs.Prelude.{◌≡◌, length};
 
 use crate::lines::{write_head, write_line};
-use fp_base::{MemFolder, Point};
-use fp_text::Writer;
+use crate::read_out;
+use fp_base::{CellId, Die, MemFolder, NetId, Point, TechId};
+use fp_netlist::{Problem, ProblemBuilder};
+use fp_place::{DrawnCell, DrawnTerminal};
+use fp_tech::{DieSpec, Dies, Frame, TechBook, TermSpec};
+use fp_text::{Kind, TextFault, Writer};
+use std::alloc::Global;
+use std::process::Abort;
 use std::test::Fail;
+
+/// The greatest coordinate.
+const GREATEST: i64 = 1 << 30;
 
 #[test]
 fn lines_as_printed(rt: HostRuntime) -> Result<(), Fail> {
@@ -15,5 +26,119 @@ fn lines_as_printed(rt: HostRuntime) -> Result<(), Fail> {
     writer.finish(&mut folder, "o")?;
     let text = b"NumTerminals 1\nTerminal n1 7 20\n".as_slice();
     assert!(rt; folder.file("o") == Some(text));
+    Ok(())
+}
+
+/// Dies of a book with one technology.
+fn small_dies(alloc: Global, book: TechBook) -> Result<Dies, Fail>
+    requires { length book.techs ≡ 1 }
+{
+    let frame = Frame {
+        llx: 0,
+        lly: 0,
+        urx: 20,
+        ury: 20,
+    };
+    let terminal = TermSpec {
+        size_x: 2,
+        size_y: 2,
+        spacing: 1,
+    };
+    let spec = DieSpec {
+        percent: 80,
+        tech: TechId(0),
+        start_x: 0,
+        start_y: 0,
+        length: 20,
+        height: 5,
+        repeat: 3,
+    };
+    Ok(Dies::new(alloc, book, frame, spec, spec, terminal)?)
+}
+
+/// A problem of the cells C1 and C2 and the net N1.
+fn small_problem(rt: &impl Abort, alloc: Global) -> Result<Problem, Fail> {
+    let mut book = TechBook::new(alloc);
+    let tech = book.add_tech(b"TA")?;
+    let lib = book.add_lib(tech, b"MC1", 3, 5)?;
+    assert!(rt; book.techs() == 1);
+    let mut builder = ProblemBuilder::new(alloc, small_dies(alloc, book)?);
+    builder.add_inst(b"C1", lib)?;
+    builder.add_inst(b"C2", lib)?;
+    builder.add_net(b"N1")?;
+    Ok(builder.finish()?)
+}
+
+#[test]
+fn lines_as_read(rt: HostRuntime) -> Result<(), Fail> {
+    let problem = small_problem(&rt, rt.alloc())?;
+    let text = "TopDiePlacement 2\nInst C2 0 04\nInst C1 1073741824 5\nBottomDiePlacement 1\r\n\
+Inst\tC2 6 7 NumTerminals 1\nTerminal N1 8 9\n";
+    let drawn = read_out(rt.alloc(), &problem, text.as_bytes())
+        .ok()
+        .ok_or("a drawing")?;
+    let (first, second) = (CellId(0), CellId(1));
+    let top = [
+        DrawnCell {
+            cell: second,
+            x: 0,
+            y: 4,
+        },
+        DrawnCell {
+            cell: first,
+            x: GREATEST,
+            y: 5,
+        },
+    ];
+    let bottom = [DrawnCell {
+        cell: second,
+        x: 6,
+        y: 7,
+    }];
+    let terminals = [DrawnTerminal {
+        net: NetId(0),
+        x: 8,
+        y: 9,
+    }];
+    assert_eq!(&rt; drawn.cells(Die::Top), top.as_slice());
+    assert_eq!(&rt; drawn.cells(Die::Bottom), bottom.as_slice());
+    assert_eq!(&rt; drawn.terminals(), terminals.as_slice());
+    Ok(())
+}
+
+#[test]
+fn first_faults(rt: HostRuntime) -> Result<(), Fail> {
+    let problem = small_problem(&rt, rt.alloc())?;
+    for (text, at, kind) in [
+        ("", 0, Kind::Ended),
+        ("BottomDiePlacement 0", 0, Kind::Word),
+        ("TopDiePlacement x", 16, Kind::Number),
+        ("TopDiePlacement 1073741825", 16, Kind::Number),
+        ("TopDiePlacement 262145", 16, Kind::Limit),
+        ("TopDiePlacement 1\nTerminal", 18, Kind::Word),
+        ("TopDiePlacement 1\nInst C9 0 0", 23, Kind::Unknown),
+        ("TopDiePlacement 1\nInst N1 0 0", 23, Kind::Unknown),
+        ("TopDiePlacement 1\nInst C\u{e8} 0 0", 23, Kind::Unknown),
+        ("TopDiePlacement 1\nInst C1 -1 0", 26, Kind::Number),
+        (
+            "TopDiePlacement 1\nInst C1 1 1073741825",
+            28,
+            Kind::Number,
+        ),
+        ("TopDiePlacement 1\nInst C1 1\n", 28, Kind::Ended),
+        (
+            "TopDiePlacement 0\nBottomDiePlacement 0\nNumTerminals 1\nTerminal C1 0 0",
+            63,
+            Kind::Unknown,
+        ),
+        (
+            "TopDiePlacement 0\nBottomDiePlacement 0\nNumTerminals 0\nx",
+            54,
+            Kind::Trailing,
+        ),
+    ] {
+        let fault = read_out(rt.alloc(), &problem, text.as_bytes()).err();
+        assert_eq!(&rt; fault, Some(TextFault::Wrong { at, kind }), "{text}");
+    }
     Ok(())
 }

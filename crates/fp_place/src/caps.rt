@@ -97,7 +97,7 @@ fn frame_area(problem: &Problem) -> u128
 }
 
 // 100 times the area that the cells of a die may take.
-fn limit(problem: &Problem, die: Die) -> u128
+pub(crate) fn limit(problem: &Problem, die: Die) -> u128
     ensures limit { result ≡ (spec_of problem.now.plan die).percent * frame_area problem.now.plan }
     ensures small { result ≤ 100 * 2 ^ 60 }
 {

@@ -1,6 +1,6 @@
 //! The nets that are cut: those with cells on both dies.
 
-ghost use Rattle.std.specs.Prelude.{◌≡◌, ◌<◌, ◌≤◌, ◌^◌, All, List, length, map};
+ghost use Rattle.std.specs.Prelude.{◌≡◌, ◌<◌, ◌≤◌, ◌^◌, All, length};
 ghost use Rattle.std.specs.List.{list_any};
 ghost use Rattle.fp_place.specs.Cut.{cut, is_cut, is_on};
 

@@ -1,6 +1,6 @@
 //! A drawn placement: the lines of an output file.
 
-ghost use Rattle.std.specs.Prelude.{◌≡◌, IsOk, MatchResult};
+ghost use Rattle.std.specs.Prelude.{◌≡◌, MatchResult};
 ghost use Rattle.fp_place.specs.Drawing.{empty, cells_on, with_cell, with_terminal, IsCoordinate, IsInRange};
 
 use fp_base::{CellId, Die, NetId, NoMemory};

@@ -3,14 +3,27 @@
 #![tactic(auto)]
 
 mod caps;
+mod close;
 mod cut_nets;
 mod drawn;
+mod fault;
+mod joining;
+mod judge;
 mod lanes;
+mod laying;
+mod lined;
+mod overlap;
+mod percents;
+mod place;
 mod placement;
+mod seen;
+mod settling;
+mod standing;
 
 pub use caps::Caps;
 pub use cut_nets::{cut, is_cut};
 pub use drawn::{Drawn, DrawnCell, DrawnTerminal};
+pub use judge::{Judged, Subject, verdict};
 pub use lanes::Lanes;
 pub use placement::{Placement, Spot};
 

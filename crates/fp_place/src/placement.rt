@@ -5,7 +5,7 @@ ghost use Rattle.fp_base.specs.declared.ids.Die.TheVariants as sides;
 ghost use Rattle.fp_tech.specs.Plan.{segments};
 ghost use Rattle.fp_place.specs.Drawing.{IsCoordinate};
 ghost use Rattle.fp_place.specs.Laying.{AreLaid, AreApart, AreLanesLaid, StandApart, IsLaneLaid};
-ghost use Rattle.fp_place.specs.Placed.{lanes_of, entry_at, DoAgree, StandOnce, IsPlacementOf};
+ghost use Rattle.fp_place.specs.Placed.{lanes_of, DoAgree, StandOnce, IsPlacementOf};
 
 use crate::lanes::Lanes;
 use fp_base::{Bottom, CellId, Die, NetId, NoMemory, Point, SegId, Side, Top};
