@@ -17,3 +17,14 @@ pub mod Loops
 pub mod InRange
 pub mod SectionLoop
 pub mod Dies
+pub mod Adding
+pub mod Pieces
+pub mod PrintedTechs
+pub mod PrintedNets
+pub mod PrintedSections
+pub mod PrintedWords
+pub mod PrintedTechWords
+pub mod PrintedNetWords
+pub mod ReadsBack
+pub mod SaidBooks
+pub mod SaidNets

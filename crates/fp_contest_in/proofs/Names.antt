@@ -9,7 +9,7 @@ use Rattle.std.proofs.lemmas.Slice.Eq.{bytes_eq-Decides}
 bytes_same : (xs ys : List ℕ) → bytes_eq xs ys ≡ true → xs ≡ ys
 bytes_same xs ys = (bytes_eq-Decides xs ys).0
 
-same_bytes : (xs ys : List ℕ) → xs ≡ ys → bytes_eq xs ys ≡ true
+pub same_bytes : (xs ys : List ℕ) → xs ≡ ys → bytes_eq xs ys ≡ true
 same_bytes xs ys = (bytes_eq-Decides xs ys).1
 
 -- each name is not among those before it
@@ -43,7 +43,7 @@ place_is {A} name_of name (x ∷ xs) k e = here (bytes_eq (name_of x) name) refl
         subst (λ (n : ℕ). (y : A) × (slice_get (x ∷ xs) n ≡ Some y) × (name_of y ≡ name)) m.2 (r.0, slice_get-cons x xs m.0 ∙ r.1, r.2)
 
 -- a name that is not among names is not the first of them, and not among the others
-not_among : (b : Bool) (o : Option ℕ) → is_some {T = ℕ} (cond b (Some 0) (option_map (λ (n : ℕ). n + 1) o)) ≡ false → (b ≡ false) × (is_some o ≡ false)
+pub not_among : (b : Bool) (o : Option ℕ) → is_some {T = ℕ} (cond b (Some 0) (option_map (λ (n : ℕ). n + 1) o)) ≡ false → (b ≡ false) × (is_some o ≡ false)
 not_among true o e = absurd cc
 not_among false None e = (refl, refl)
 not_among false (Some k) e = absurd cc

@@ -152,3 +152,7 @@ is_in_read bytes text p =
     let front = front_again (whole bytes) text p.after_techs p.after_sections p.techs p.sections in
     let cells = netlist_again text (left_of (whole bytes) p.after_sections) p.after_instances p.instances p.nets in
     rw (front, cells) refl
+
+-- a file says one problem
+pub reads_once : (bytes : List ℕ) (a b : ProblemText) → Reads bytes a → Reads bytes b → a ≡ b
+reads_once bytes a b one other = ok_is a b (sym (is_in_read bytes a one) ∙ is_in_read bytes b other)

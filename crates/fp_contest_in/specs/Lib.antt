@@ -5,3 +5,4 @@ pub mod ProblemLaws
 pub mod Growing
 pub mod Ranges
 pub mod Given
+pub mod PrintedText

@@ -1,14 +1,19 @@
-//! The reader of contest input files.
+//! The reader and the printer of contest input files.
 #![tactic(auto)]
 
 mod insts;
+mod lines;
 mod nets;
+mod print_nets;
+mod print_techs;
+mod printing;
 mod reading;
 mod section;
 mod sections;
 mod steps;
 mod techs;
 
+pub use printing::print_problem;
 pub use reading::read_problem;
 
 #[cfg(test)]

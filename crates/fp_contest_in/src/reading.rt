@@ -87,6 +87,8 @@ pub fn read_problem(alloc: Global, bytes: &[u8]) -> Result<Problem, TextFault>
     ensures reads { IfOk result (λ p. (text : ProblemText) × Reads bytes.now text × (p ≡ netlist_of text)) }
     // What is in the grammar is read, unless memory runs out.
     ensures only { (text : ProblemText) → Reads bytes.now text → GivesProblem result (Ok text) }
+    // A file says one problem.
+    ensures once { (a b : ProblemText) → Reads bytes.now a → Reads bytes.now b → a ≡ b }
     // Which fault it is.
     ensures gives { GivesProblem result (problem_of bytes.now) }
 {

@@ -1,18 +1,21 @@
 -- From the parts of an output file to the whole.
-use Rattle.std.proofs.Common.{◌≡◌, List, ℕ, [], Result, Ok, Err, refl, sym, ap, subst, ◌∙◌}
+use Rattle.std.proofs.Common.{◌≡◌, List, ℕ, Result, Ok, Err, refl, sym, ap, subst, ◌∙◌}
 use Rattle.std.specs.Prelude.{IfOk, codes}
 use Rattle.fp_base.specs.declared.ids.Die.TheVariants.{Top, Bottom}
 use Rattle.fp_text.specs.Reading.{Left, Fault, end_next, GivesFault, Ends}
+use Rattle.fp_text.specs.ReadingLaws.{ok_is}
 use Rattle.fp_text.specs.declared.fault.TextFault.{TextFault}
 use Rattle.fp_text.specs.declared.fault.TextFault.TheVariants.{Wrong, Memory}
-use Rattle.fp_netlist.specs.Netlist.{Netlist, IsSound}
+use Rattle.fp_netlist.specs.Netlist.{Netlist, cell_names, IsSound}
 use Rattle.fp_place.specs.declared.drawn.DrawnCell.{DrawnCell}
 use Rattle.fp_place.specs.declared.drawn.DrawnTerminal.{DrawnTerminal}
 use Rattle.fp_place.specs.Drawing.{Drawing, empty}
-use Rattle.fp_out.specs.OutText.{die_word}
-use Rattle.fp_out.specs.OutGrammar.{ReadsOut}
+use Rattle.fp_place.specs.Placed.{Placed, drawn_of, IsPlacementOf}
+use Rattle.fp_out.specs.OutText.{die_word, out_text}
+use Rattle.fp_out.specs.OutGrammar.{AreNames, ReadsOut}
 use Rattle.fp_out.specs.OutReading.{inst_next, terminal_next, part_next, drawing_next, out_of, GivesDrawing}
 use Rattle.fp_out.specs.Growing.{with_cells, with_terminals, Draws}
+use Rattle.fp_out.specs.ReadBack.{reads_back}
 use Rattle.fp_out.proofs.OutAgree.{read_is_in, is_in_read}
 
 -- what the parts read
@@ -65,3 +68,13 @@ gives_reads p bytes (Err e) gives = tt
 pub gives_only : (p : Netlist) → IsSound p → (bytes : List ℕ) (result : Result Drawing TextFault) (drawing : Drawing) → ReadsOut p bytes drawing → GivesDrawing result (out_of p bytes)
     → GivesDrawing result (Ok drawing)
 gives_only p sound bytes result drawing reads gives = subst (λ read. GivesDrawing result read) (is_in_read p sound bytes drawing reads) gives
+
+-- the text of a placement is read as what was drawn
+pub gives_back : (p : Netlist) → IsSound p → (bytes : List ℕ) (result : Result Drawing TextFault) (placed : Placed) → IsPlacementOf p placed → AreNames (cell_names p) → AreNames p.nets
+    → bytes ≡ out_text p (drawn_of placed) → GivesDrawing result (out_of p bytes) → GivesDrawing result (Ok (drawn_of placed))
+gives_back p sound bytes result placed of_problem cells nets same gives =
+    gives_only p sound bytes result (drawn_of placed) (subst (λ (bs : List ℕ). ReadsOut p bs (drawn_of placed)) (sym same) (reads_back p placed sound of_problem cells nets)) gives
+
+-- a file says at most one drawing
+pub one_drawing : (p : Netlist) → IsSound p → (bytes : List ℕ) (one other : Drawing) → ReadsOut p bytes one → ReadsOut p bytes other → one ≡ other
+one_drawing p sound bytes one other first second = ok_is one other (sym (is_in_read p sound bytes one first) ∙ is_in_read p sound bytes other second)

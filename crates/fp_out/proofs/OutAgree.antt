@@ -1,13 +1,12 @@
 -- The output file: what is read is in the grammar, and what is in the grammar is read.
-use Rattle.std.proofs.Common.{◌≡◌, ℕ, ◌^◌, ◌≤◌, true, List, [], ◌∷◌, length, Option, Some, None, Result, Ok, Err, refl, sym, ap, subst, ◌∙◌, arith}
+use Rattle.std.proofs.Common.{◌≡◌, ℕ, ◌^◌, ◌≤◌, List, [], length, Option, Some, None, Ok, refl, sym, ap, subst, ◌∙◌, arith}
 use Rattle.std.specs.Prelude.{codes, pos}
 use Rattle.std.specs.List.{IsDistinct}
 use Rattle.std.specs.Str.{bytes_eq}
 use Rattle.fp_base.specs.declared.ids.Die.TheVariants.{Top, Bottom}
 use Rattle.fp_base.specs.declared.ids.Point.{Point}
 use Rattle.fp_text.specs.Words.{Word, words_of}
-use Rattle.fp_text.specs.Numbers.{Spells}
-use Rattle.fp_text.specs.Reading.{Left, Read, whole, word_next, keyword_next, number_next, end_next, many_next}
+use Rattle.fp_text.specs.Reading.{Left, Read, whole, word_next, keyword_next, number_next, end_next}
 use Rattle.fp_text.specs.ReadingLaws as laws
 use Rattle.fp_text.specs.ReadingLaws.{left_of, bind_ok, ok_is, word_ok, word_again, end_ok, end_again, Each, many_ok, many_again}
 use Rattle.fp_text.specs.declared.fault.Kind.{Kind}
@@ -17,7 +16,7 @@ use Rattle.fp_place.specs.declared.drawn.DrawnCell.{DrawnCell}
 use Rattle.fp_place.specs.declared.drawn.DrawnTerminal.{DrawnTerminal}
 use Rattle.fp_place.specs.Drawing.{Drawing}
 use Rattle.fp_out.specs.OutText.{die_word}
-use Rattle.fp_out.specs.OutGrammar.{most_coordinate, most_lines, Keyword, Number, Names, Coordinate, IsLine, IsInst, IsTerminal, IsPart, IsDrawing, ReadsOut}
+use Rattle.fp_out.specs.OutGrammar.{most_coordinate, most_lines, Keyword, Number, Names, Coordinate, IsInst, IsTerminal, IsPart, IsDrawing, ReadsOut}
 use Rattle.fp_out.specs.OutReading.{number_of, known_at, known_next, point_next, inst_next, terminal_next, head_next, part_next, drawing_next, out_of}
 use Rattle.fp_out.proofs.Known as known
 

@@ -3,3 +3,4 @@ pub mod OutTextLaws
 pub mod OutGrammar
 pub mod OutReading
 pub mod Growing
+pub mod ReadBack

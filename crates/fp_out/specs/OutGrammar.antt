@@ -1,6 +1,6 @@
 -- The grammar of the output file, as a relation between a drawing and the tokens that spell it: each statement takes the first words, and
 -- the rest follow.
-use Rattle.std.specs.Prelude.{◌≡◌, ℕ, ◌^◌, true, List, [], ◌∷◌, length, Some, slice_get, codes, ℤ, pos}
+use Rattle.std.specs.Prelude.{◌≡◌, ℕ, ◌^◌, true, List, [], ◌∷◌, length, All, Some, slice_get, codes, ℤ, pos}
 use Rattle.fp_base.specs.declared.ids.Die.TheVariants.{Top, Bottom}
 use Rattle.fp_base.specs.declared.ids.Point.{Point}
 use Rattle.fp_text.specs.Words.{Word, words_of}
@@ -30,6 +30,10 @@ Number most n words rest = (word : Word) × (words ≡ word ∷ rest) × Spells 
 -- the first word is a name, that of this number among these names
 abbrev pub Names : List (List ℕ) → ℕ → List Word → List Word → Type 0
 Names names number words rest = (word : Word) × (words ≡ word ∷ rest) × (is_name word.text ≡ true) × (slice_get names number ≡ Some word.text)
+
+-- all of these are names
+abbrev pub AreNames : List (List ℕ) → Type 0
+AreNames names = All (λ name. is_name name ≡ true) names
 
 -- the first word is a coordinate
 abbrev pub Coordinate : ℤ → List Word → List Word → Type 0

@@ -5,8 +5,9 @@ ghost use Rattle.std.specs.Option.{option_map};
 ghost use Rattle.fp_text.specs.Reading.{Gives, many_next};
 ghost use Rattle.fp_netlist.specs.Netlist.{cell_names};
 ghost use Rattle.fp_place.specs.Drawing.{Drawing, empty, with_cell, with_terminal, IsCoordinate};
-ghost use Rattle.fp_out.specs.OutText.{die_word};
-ghost use Rattle.fp_out.specs.OutGrammar.{ReadsOut};
+ghost use Rattle.fp_place.specs.Placed.{Placed, drawn_of, IsPlacementOf};
+ghost use Rattle.fp_out.specs.OutText.{die_word, out_text};
+ghost use Rattle.fp_out.specs.OutGrammar.{AreNames, ReadsOut};
 ghost use Rattle.fp_out.specs.OutReading.{number_of, known_next, point_next, inst_next, terminal_next, head_next, part_next, drawing_next, out_of, GivesDrawing};
 ghost use Rattle.fp_out.specs.Growing.{with_cells, with_terminals, Grows, Draws};
 
@@ -199,11 +200,7 @@ fn cells(
 
 /// Reads the part of the terminals.
 #[tactic(auto, unfolding(crate::specs::OutReading::part_next))]
-fn terminals(
-    drawn: &mut Drawn,
-    problem: &Problem,
-    tokens: &mut Tokens<'_>,
-) -> Result<(), TextFault>
+fn terminals(drawn: &mut Drawn, problem: &Problem, tokens: &mut Tokens<'_>) -> Result<(), TextFault>
     ensures { Grows with_terminals result drawn.old drawn.new tokens.new
         (part_next (codes "NumTerminals") (terminal_next problem.now) tokens.old) }
 {
@@ -212,11 +209,7 @@ fn terminals(
 }
 
 /// Reads the whole file into a drawing without lines.
-fn drawing(
-    drawn: &mut Drawn,
-    problem: &Problem,
-    tokens: &mut Tokens<'_>,
-) -> Result<(), TextFault>
+fn drawing(drawn: &mut Drawn, problem: &Problem, tokens: &mut Tokens<'_>) -> Result<(), TextFault>
     requires { drawn.old ≡ empty }
     ensures { Draws result drawn.new (drawing_next problem.now tokens.old) }
 {
@@ -239,10 +232,16 @@ fn drawing(
 pub fn read_out(alloc: Global, problem: &Problem, bytes: &[u8]) -> Result<Drawn, TextFault>
     // What is read is in the grammar, with its drawing.
     ensures reads { IfOk result (λ drawn. ReadsOut problem.now bytes.now drawn) }
-    // What is in the grammar is read, unless memory runs out; so a file says at most one drawing.
+    // What is in the grammar is read, unless memory runs out.
     ensures only { (drawing : Drawing) → ReadsOut problem.now bytes.now drawing → GivesDrawing result (Ok drawing) }
+    // A file says at most one drawing.
+    ensures unique { (one other : Drawing) → ReadsOut problem.now bytes.now one → ReadsOut problem.now bytes.now other → one ≡ other }
     // Which fault it is.
     ensures gives { GivesDrawing result (out_of problem.now bytes.now) }
+    // What `write_out` writes of a placement is read as what was drawn, where the problem's names are names, as those of
+    // an input file are.
+    ensures back { (placed : Placed) → IsPlacementOf problem.now placed → AreNames (cell_names problem.now) → AreNames problem.now.nets
+        → bytes.now ≡ out_text problem.now (drawn_of placed) → GivesDrawing result (Ok (drawn_of placed)) }
 {
     let _cells = problem.cells();
     let mut tokens = Tokens::new(bytes);

@@ -4,10 +4,10 @@ ghost use Rattle.std.specs.Prelude.{◌≡◌, length};
 
 use crate::lines::{write_head, write_line};
 use crate::read_out;
-use fp_base::{CellId, Die, MemFolder, NetId, Point, TechId};
+use fp_base::{CellId, Die, LibId, MemFolder, NetId, Point, TechId};
 use fp_netlist::{Problem, ProblemBuilder};
 use fp_place::{DrawnCell, DrawnTerminal};
-use fp_tech::{DieSpec, Dies, Frame, TechBook, TermSpec};
+use fp_tech::{BuildFault, DieSpec, Dies, Frame, TechBook, TermSpec};
 use fp_text::{Kind, TextFault, Writer};
 use std::alloc::Global;
 use std::process::Abort;
@@ -56,16 +56,27 @@ fn small_dies(alloc: Global, book: TechBook) -> Result<Dies, Fail>
     Ok(Dies::new(alloc, book, frame, spec, spec, terminal)?)
 }
 
+/// Adds a technology with one library cell.
+fn fill_book(book: &mut TechBook) -> Result<LibId, BuildFault> {
+    let tech = book.add_tech(b"TA")?;
+    book.add_lib(tech, b"MC1", 3, 5)
+}
+
+/// Adds the cells C1 and C2 and the net N1.
+fn fill(builder: &mut ProblemBuilder, lib: LibId) -> Result<NetId, BuildFault> {
+    builder.add_inst(b"C1", lib)?;
+    builder.add_inst(b"C2", lib)?;
+    builder.add_net(b"N1")
+}
+
 /// A problem of the cells C1 and C2 and the net N1.
 fn small_problem(rt: &impl Abort, alloc: Global) -> Result<Problem, Fail> {
     let mut book = TechBook::new(alloc);
-    let tech = book.add_tech(b"TA")?;
-    let lib = book.add_lib(tech, b"MC1", 3, 5)?;
+    let lib = fill_book(&mut book)?;
     assert!(rt; book.techs() == 1);
-    let mut builder = ProblemBuilder::new(alloc, small_dies(alloc, book)?);
-    builder.add_inst(b"C1", lib)?;
-    builder.add_inst(b"C2", lib)?;
-    builder.add_net(b"N1")?;
+    let dies = small_dies(alloc, book)?;
+    let mut builder = ProblemBuilder::new(alloc, dies);
+    fill(&mut builder, lib)?;
     Ok(builder.finish()?)
 }
 
@@ -120,11 +131,7 @@ fn first_faults(rt: HostRuntime) -> Result<(), Fail> {
         ("TopDiePlacement 1\nInst N1 0 0", 23, Kind::Unknown),
         ("TopDiePlacement 1\nInst C\u{e8} 0 0", 23, Kind::Unknown),
         ("TopDiePlacement 1\nInst C1 -1 0", 26, Kind::Number),
-        (
-            "TopDiePlacement 1\nInst C1 1 1073741825",
-            28,
-            Kind::Number,
-        ),
+        ("TopDiePlacement 1\nInst C1 1 1073741825", 28, Kind::Number),
         ("TopDiePlacement 1\nInst C1 1\n", 28, Kind::Ended),
         (
             "TopDiePlacement 0\nBottomDiePlacement 0\nNumTerminals 1\nTerminal C1 0 0",
