@@ -13,8 +13,9 @@ use Rattle.fp_place.specs.Drawing.{Drawing}
 use Rattle.fp_place.specs.Legal.{IsLegal}
 use Rattle.faceplace.specs.Request.{Asked, Seed, Score}
 use Rattle.faceplace.specs.Drawn.{HasOutputCause, HoldsDrawing, HoldsOnlyDrawing}
-use Rattle.faceplace.specs.Report.{Cause, IsMissing, IsLong, IsWrong, HasCause, HoldsProblem, HoldsOnly, words_report}
-use Rattle.faceplace.specs.Outcome.{Writing, Outcome, told, IsDue, IsDueAlone}
+use Rattle.faceplace.specs.Report.{Cause, IsMissing, IsLong, IsWrong, HasCause, HoldsProblem, HoldsOnly, words_report, score_report, broken_report}
+use Rattle.faceplace.specs.Outcome.{Writing, Outcome, told, InputSays, OutputSays, IsDue, IsDueAlone}
+use Rattle.faceplace.specs.Judging.{Reports}
 use Rattle.faceplace.specs.Status.{code_of, Tells, Refuses}
 use Rattle.faceplace.specs.Run.{Outside, EndsAs}
 use Rattle.faceplace.proofs.Seeds.{exclusive}
@@ -28,11 +29,29 @@ refused asked refusal status report old new due same (inr (inl (is, rose, front)
     inr (inr (inr (inr (record { outcome = told refusal report; due = due; status_is = is; files = same; rose = rose; front = front }))))
 refused asked refusal status report old new due same (inr (inr (is, quiet, steady))) = inr (inl (record { status_is = is; files = same; nothing = (quiet, steady) }))
 
+-- a report that was told
+pub tells_refuses : (report : List ℕ) (wanted status : Status) (old new : Option (List ℕ)) (before after : ℕ) → Tells report wanted status old new before after
+    → Refuses report (code_of wanted) (code_of status) old new before after
+tells_refuses report wanted status old new before after (inl (is, put)) = inl (ap code_of is, put)
+tells_refuses report wanted status old new before after (inr (is, rose, front)) = inr (inl (ap code_of is, rose, front))
+
 -- the words are no request
 pub no_request : (status : Status) (old new : Outside) → new.held ≡ old.held
     → Tells words_report statuses.BadWords status old.written new.written old.sink_faults new.sink_faults → EndsAs None (code_of status) old new
-no_request status old new same (inl (is, put)) = refused None 2 (code_of status) words_report old new refl same (inl (ap code_of is, put))
-no_request status old new same (inr (is, rose, front)) = refused None 2 (code_of status) words_report old new refl same (inr (inl (ap code_of is, rose, front)))
+no_request status old new same tells =
+    refused None 2 (code_of status) words_report old new refl same (tells_refuses words_report statuses.BadWords status old.written new.written old.sink_faults new.sink_faults tells)
+
+-- the verdict on a drawing was told, or memory ran out
+pub judged : (input output : List ℕ) (p : Netlist) (drawing : Drawing) (status : ℕ) (old new : Outside) → InputSays true input old.held p → OutputSays true output old.held p drawing
+    → new.held ≡ old.held → Reports p drawing status old.written new.written old.sink_faults new.sink_faults → EndsAs (Some (Score input output)) status old new
+judged input output p drawing status old new says draws same (inl t) =
+    refused (Some (Score input output)) 0 status (score_report t.total) old new
+    (inr (inr (inl (record { problem = p; drawing = drawing; says = says; draws = draws; legal = t.legal; total = t.total; scored = t.scored; is = refl })))) same t.tells
+judged input output p drawing status old new says draws same (inr (inl t)) =
+    refused (Some (Score input output)) 5 status (broken_report p t.rule t.subject) old new
+    (inr (inr (inr (record { problem = p; drawing = drawing; says = says; draws = draws; rule = t.rule; subject = t.subject; breaks = t.breaks; is = refl })))) same t.tells
+judged input output p drawing status old new says draws same (inr (inr nothing)) =
+    inr (inl (record { status_is = nothing.status_is; files = same; nothing = (nothing.quiet, nothing.steady) }))
 
 -- the folder failed at reading
 pub unread : (asked : Asked) (old new : Outside) → Rose old.folder_faults new.folder_faults → new.held ≡ old.held → new.written ≡ old.written → new.sink_faults ≡ old.sink_faults

@@ -2,7 +2,9 @@
 use Rattle.std.proofs.Common.{◌≡◌, ℕ, ◌≤◌, List, Option, Some, None, length, Result, Ok, Err, subst, sym, ap, ◌∙◌}
 use Rattle.fp_base.specs.Files.{Files, WhereTold, bytes_of}
 use Rattle.fp_text.specs.declared.fault.Kind.{Kind}
-use Rattle.fp_text.specs.Reading.{Fault, fault}
+use Rattle.fp_text.specs.Reading.{Fault, fault, GivesFault}
+use Rattle.fp_text.specs.declared.fault.TextFault.{TextFault}
+use Rattle.fp_text.specs.declared.fault.TextFault.TheVariants as texts
 use Rattle.fp_netlist.specs.Netlist.{Netlist}
 use Rattle.fp_place.specs.Drawing.{Drawing}
 use Rattle.fp_contest_in.specs.Text.{ProblemText, netlist_of}
@@ -15,7 +17,7 @@ use Rattle.faceplace.specs.declared.input.Stop.TheVariants.{Memory, Device, Refu
 use Rattle.faceplace.specs.Causes.{cause_of}
 use Rattle.faceplace.specs.Report.{Cause, IsMissing, IsLong, IsWrong, HasCause, HoldsOnly, most_input}
 use Rattle.faceplace.specs.Drawn.{HasOutputCause, HoldsOnlyDrawing}
-use Rattle.faceplace.specs.Input.{Lacks, GivesFile, GivesInput, GivesOutput}
+use Rattle.faceplace.specs.Input.{Lacks, GivesFile, GivesInput, GivesOutput, stop_of}
 
 -- where a name lacks bytes, a file of any kind has that cause
 lacks_input : (bytes : Option (List ℕ)) (cause : Cause) → Lacks bytes cause → HasCause bytes cause
@@ -71,6 +73,16 @@ wrong_output p (Some files) name bytes at kind whole short wrong only =
   where
     not_read : (drawing : Drawing) → drawn_as drawing ≡ fault at kind → ⊥
     not_read drawing e = absurd cc
+
+pub faulty_input : (held : Option Files) (name bytes : List ℕ) (found : TextFault) → WhereTold held (λ files. bytes_of files name ≡ Some bytes) → length bytes ≤ most_input
+    → GivesFault found (problem_of bytes) → ((text : ProblemText) → Reads bytes text → GivesFault found (read_as text)) → GivesInput held name (Err (stop_of found))
+faulty_input held name bytes (texts.Wrong at kind) whole short gives only = wrong_input held name bytes at kind whole short gives only
+faulty_input held name bytes texts.Memory whole short gives only = tt
+
+pub faulty_output : (p : Netlist) (held : Option Files) (name bytes : List ℕ) (found : TextFault) → WhereTold held (λ files. bytes_of files name ≡ Some bytes) → length bytes ≤ most_input
+    → GivesFault found (out_of p bytes) → ((drawing : Drawing) → ReadsOut p bytes drawing → GivesFault found (drawn_as drawing)) → GivesOutput p held name (Err (stop_of found))
+faulty_output p held name bytes (texts.Wrong at kind) whole short gives only = wrong_output p held name bytes at kind whole short gives only
+faulty_output p held name bytes texts.Memory whole short gives only = tt
 
 -- a problem that was read is the one that the bytes say
 same_text : (a b : ProblemText) → read_as a ≡ read_as b → a ≡ b

@@ -19,15 +19,17 @@ pub fn request_of(words: &[String]) -> Option<Request<'_>>
 {
     match words {
         [command, input, output] => {
+            let command = command.as_str();
             let input = input.as_str();
             let output = output.as_str();
             if input == output {
-                return None;
-            }
-            match command.as_str() {
-                "seed" => Some(Request::Seed { input, output }),
-                "score" => Some(Request::Score { input, output }),
-                _ => None,
+                None
+            } else if command == "seed" {
+                Some(Request::Seed { input, output })
+            } else if command == "score" {
+                Some(Request::Score { input, output })
+            } else {
+                None
             }
         }
         _ => None,
