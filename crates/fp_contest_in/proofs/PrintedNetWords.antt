@@ -1,11 +1,9 @@
 -- The words of the nets and the sections that are printed.
 use Rattle.std.specs.Prelude.{codes}
-use Rattle.std.proofs.Common.{◌≡◌, ℕ, zero, suc, ◌+◌, ◌-◌, ◌^◌, ◌<◌, ◌≤◌, Bool, true, false, List, [], ◌∷◌, ◌++◌, length, flat_map, slice_get, Some, Option, refl, sym, ap, subst, ◌∙◌, arith}
+use Rattle.std.proofs.Common.{◌≡◌, ℕ, zero, suc, ◌+◌, ◌-◌, ◌^◌, ◌<◌, ◌≤◌, Bool, true, false, List, [], ◌∷◌, ◌++◌, length, flat_map, slice_get, Some, refl, sym, ap, subst, ◌∙◌, arith}
 use Rattle.std.proofs.lemmas.List.{length-append}
-use Rattle.std.proofs.lemmas.Option.{slice_get_within}
-use Rattle.fp_base.specs.declared.ids.Die.{Die}
 use Rattle.fp_base.specs.declared.ids.Die.TheVariants.{Top, Bottom}
-use Rattle.fp_text.specs.Words.{is_blank, Word}
+use Rattle.fp_text.specs.Words.{Word}
 use Rattle.fp_text.specs.WordsLaws.{AllAre}
 use Rattle.fp_text.specs.Numbers.{is_name}
 use Rattle.fp_text.specs.NumbersLaws.{IsSolid, is_solid, solid-tested, name-solid}
@@ -18,10 +16,10 @@ use Rattle.fp_contest_in.specs.declared.section.Section.{Section}
 use Rattle.fp_contest_in.specs.declared.section.Section.TheVariants.{DieSize, MaxUtil, Rows, Tech as TechName, TerminalSize, TerminalSpacing}
 use Rattle.fp_contest_in.specs.declared.section.Setup.{Setup}
 use Rattle.fp_contest_in.specs.Text.{TechText, ConnText, NetText, tech_name_list, conn_count}
-use Rattle.fp_contest_in.specs.Grammar.{Ranged, Keyword, Named, AreSections, any_number, ranged, most_number, most_conns, slash, die_of, keyword_of, is_in, IsPath, IsNetPin, IsNet, IsNewNet, AreNets, HasFields, NamesTech, IsSection, IsNewSection}
+use Rattle.fp_contest_in.specs.Grammar.{Ranged, Keyword, Named, AreSections, any_number, ranged, most_number, most_conns, slash, is_in, IsNetPin, IsNewNet, AreNets, NamesTech, IsSection, IsNewSection}
 use Rattle.fp_contest_in.specs.PrintedText.{line, numbers, conn_line, net_lines, nets_lines, section_line, sections_lines, usual_order}
 use Rattle.fp_contest_in.proofs.Pieces.{name_is, mapped_at, element}
-use Rattle.fp_contest_in.proofs.PrintedWords.{Says, then_says, says_so, each_says, line_says, values, fits, IsNumbersLine, numbers_line_says, IsNamedLine, named_line_says}
+use Rattle.fp_contest_in.proofs.PrintedWords.{Says, then_says, says_so, each_says, line_says, values, fits, IsNumbersLine, numbers_line_says, named_line_says}
 
 -- ---- nets
 

@@ -1,15 +1,14 @@
 -- The words of the technologies and the instances that are printed.
 use Rattle.std.specs.Prelude.{codes}
-use Rattle.std.proofs.Common.{◌≡◌, ℕ, ◌^◌, ◌≤◌, true, List, [], ◌∷◌, ◌++◌, length, refl, ap, ◌∙◌, arith}
+use Rattle.std.proofs.Common.{◌^◌, List, [], ◌∷◌, length, refl, ap, ◌∙◌, arith}
 use Rattle.fp_text.specs.Words.{Word}
 use Rattle.fp_text.specs.NumbersLaws.{solid-tested, name-solid}
-use Rattle.fp_text.specs.ReadingLaws.{Each}
 use Rattle.fp_tech.specs.Book.{Pin}
 use Rattle.fp_tech.specs.Plan.{Plan}
 use Rattle.fp_contest_in.specs.Text.{LibText, TechText, InstText}
-use Rattle.fp_contest_in.specs.Grammar.{Ranged, any_number, ranged, most_number, IsPin, IsNewPin, IsLib, IsNewLib, IsTech, IsNewTech, AreTechs, IsInst, IsNewInst, AreInsts}
+use Rattle.fp_contest_in.specs.Grammar.{Ranged, any_number, ranged, most_number, IsNewPin, IsNewLib, IsNewTech, AreTechs, IsNewInst, AreInsts}
 use Rattle.fp_contest_in.specs.PrintedText.{pin_line, lib_lines, tech_lines, techs_lines, inst_line, insts_lines}
-use Rattle.fp_contest_in.proofs.PrintedWords.{Says, then_says, says_so, each_says, line_says, fits, IsNumbersLine, numbers_line_says, IsNamedLine, named_line_says}
+use Rattle.fp_contest_in.proofs.PrintedWords.{Says, then_says, says_so, each_says, line_says, fits, numbers_line_says, named_line_says}
 
 abbrev offset_of : Pin → List Ranged
 offset_of pin = any_number pin.x ∷ any_number pin.y ∷ []

@@ -1,16 +1,16 @@
 -- The lines of the technologies, one element more at a time.
 use Rattle.std.specs.Prelude.{codes}
 use Rattle.std.specs.List.{IsDistinct, AllByRecursion}
-use Rattle.std.proofs.Common.{◌≡◌, ℕ, zero, suc, ◌+◌, ◌<◌, ◌≤◌, ◌==◌, false, cond, List, [], ◌∷◌, ◌++◌, length, map, take, find, get_or, slice_get, flat_map, unwrap_or, nat_eq, Option, Some, None, option_map, refl, sym, ap, subst, ◌∙◌, arith}
+use Rattle.std.proofs.Common.{◌≡◌, ℕ, zero, suc, ◌+◌, ◌<◌, ◌≤◌, ◌==◌, false, cond, List, [], ◌∷◌, ◌++◌, length, map, take, find, get_or, slice_get, flat_map, nat_eq, Option, Some, None, option_map, refl, sym, ap, subst, ◌∙◌, arith}
 use Rattle.std.proofs.lemmas.Bool.{eq-eqb}
 use Rattle.std.proofs.lemmas.List.{length-map}
 use Rattle.fp_base.specs.declared.ids.LibId.{LibId}
 use Rattle.std.proofs.lemmas.Option.{same_Some, slice_get-map, slice_get_within, get_or_from_slice_get}
 use Rattle.std.proofs.lemmas.Map.Keys.{IsDistinct-head, IsDistinct-tail}
-use Rattle.fp_tech.specs.Book.{Pin, Lib, Tech, Book, name_at, names_of, tech_names, libs_of, lib_ids, lib_in, pins_in, size_of, IsLib, IsBook}
+use Rattle.fp_tech.specs.Book.{Pin, Lib, Tech, Book, names_of, tech_names, libs_of, lib_ids, lib_in, IsLib, IsBook}
 use Rattle.fp_tech.specs.BookLaws.{libs_within, libs_at}
 use Rattle.fp_contest_in.specs.PrintedText.{line, numbers, pin_line, pin_lines, lib_lines, libs_lines, tech_lines, lib_said, tech_said}
-use Rattle.fp_contest_in.proofs.Pieces.{piece_more, mapped_at, element, element_in, name_is}
+use Rattle.fp_contest_in.proofs.Pieces.{piece_more, mapped_at, element, element_in}
 
 -- ---- pins
 
@@ -59,17 +59,7 @@ pub lib_more : (names : List (List ℕ)) (libs : List Lib) (i : ℕ) (lib : Lib)
     → flat_map lib_lines (take i (map (lib_said names) libs)) ++ lib_lines (lib_said names lib) ≡ flat_map lib_lines (take (i + 1) (map (lib_said names) libs))
 lib_more names libs i lib at = piece_more lib_lines (map (lib_said names) libs) i (lib_said names lib) (mapped_at (lib_said names) libs i lib at)
 
--- the lines of a library cell and of a technology, from what the book answers
-pub lib_written : (book : Book) (t id : ℕ) (lib : Lib) (name : List ℕ) (width height count : ℕ) → lib_in book t id ≡ Some lib → lib.id ≡ id → slice_get book.names id ≡ Some name
-    → option_map size_of (lib_in book t id) ≡ Some (width, height) → count ≡ length (pins_in book t id)
-    → line (codes "LibCell") (name ∷ numbers (width ∷ height ∷ count ∷ [])) ++ pin_lines (pins_in book t id) ≡ lib_lines (lib_said book.names lib)
-lib_written book t id lib name width height count found numbered named sized counted =
-    let pins : pins_in book t id ≡ lib.pins = ap (λ o. unwrap_or (option_map (λ (l : Lib). l.pins) o) []) found in
-    let size : (width, height) ≡ (lib.width, lib.height) = sym (same_Some (lib.width, lib.height) (width, height) (ap (option_map size_of) (sym found) ∙ sized)) in
-    let called : name ≡ name_at book.names lib.id = sym (ap (name_at book.names) numbered ∙ name_is book.names id name named) in
-    let many : count ≡ length lib.pins = counted ∙ ap length pins in
-    λ i. line (codes "LibCell") (called i ∷ numbers ((size i).0 ∷ (size i).1 ∷ many i ∷ [])) ++ pin_lines (pins i)
-
+-- the lines of a technology, from what the book answers
 pub tech_written : (book : Book) (t : ℕ) (tech : Tech) (name : List ℕ) (count : ℕ) → slice_get book.techs t ≡ Some tech → slice_get (tech_names book) t ≡ Some name → count ≡ length (libs_of book t)
     → line (codes "Tech") (name ∷ numbers (count ∷ [])) ++ libs_lines (map (lib_said book.names) (libs_of book t)) ≡ tech_lines (tech_said book.names tech)
 tech_written book t tech name count at named counted =

@@ -1,7 +1,6 @@
 -- The words of what is printed.
-use Rattle.std.specs.Prelude.{codes, decimal}
-use Rattle.std.proofs.Common.{◌≡◌, ℕ, zero, suc, ◌+◌, ◌^◌, ◌≤◌, ◌<◌, true, false, List, [], ◌∷◌, ◌++◌, length, map, flat_map, refl, sym, ap, subst, ◌∙◌, append_assoc, arith}
-use Rattle.fp_text.specs.Words.{is_blank, Word, words_from}
+use Rattle.std.proofs.Common.{◌≡◌, ℕ, ◌+◌, ◌^◌, ◌≤◌, true, List, [], ◌∷◌, ◌++◌, length, map, flat_map, refl, sym, ap, subst, ◌∙◌, append_assoc, arith}
+use Rattle.fp_text.specs.Words.{Word, words_from}
 use Rattle.fp_text.specs.WordsLaws.{Breaks, words-blank, words-solid}
 use Rattle.fp_text.specs.Numbers.{is_name, Spells}
 use Rattle.fp_text.specs.NumbersLaws.{IsSolid, is_solid, solid-tested, name-solid, decimal-solid, decimal-spells}

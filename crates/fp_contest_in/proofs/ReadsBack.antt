@@ -1,16 +1,16 @@
 -- The canonical text of a problem reads as the problem.
-use Rattle.std.proofs.Common.{◌≡◌, ℕ, zero, suc, true, List, [], ◌∷◌, ◌++◌, length, map, slice_get, Some, refl, sym, ap, subst, ◌∙◌}
+use Rattle.std.proofs.Common.{◌≡◌, ℕ, zero, suc, true, List, [], ◌∷◌, ◌++◌, length, slice_get, Some, refl, sym, ap, subst, ◌∙◌}
 use Rattle.std.proofs.lemmas.List.{append-nil, length-map, map_push}
 use Rattle.std.proofs.lemmas.Option.{same_Some}
 use Rattle.fp_text.specs.Words.{Word, words_of, words_from}
 use Rattle.fp_text.specs.Numbers.{is_name}
 use Rattle.fp_text.specs.ReadingLaws.{Each}
-use Rattle.fp_tech.specs.Book.{Tech, no_techs, tech_names}
-use Rattle.fp_tech.specs.Plan.{Plan, IsDieSpec, IsPlan}
+use Rattle.fp_tech.specs.Book.{Tech, no_techs}
+use Rattle.fp_tech.specs.Plan.{IsDieSpec, IsPlan}
 use Rattle.fp_netlist.specs.Netlist.{Netlist, no_cells, cell_names}
-use Rattle.fp_contest_in.specs.Text.{LibText, TechText, ProblemText, lib_name_list, inst_name_list, tech_name_list, with_tech_text, plan_of, cells_of, netlist_of}
+use Rattle.fp_contest_in.specs.Text.{LibText, TechText, ProblemText, lib_name_list, inst_name_list, plan_of, cells_of, netlist_of}
 use Rattle.fp_contest_in.specs.ProblemLaws.{cell_names-with_inst_texts, plan-netlist_of}
-use Rattle.fp_contest_in.specs.Grammar.{AreTechs, AreSections, AreInsts, AreNets, IsNewLib, IsNewTech, IsProblem, Reads}
+use Rattle.fp_contest_in.specs.Grammar.{AreTechs, AreSections, AreInsts, AreNets, IsNewLib, IsNewTech, Reads}
 use Rattle.fp_contest_in.specs.PrintedText.{nets_lines, text_lines, text_said, problem_text}
 use Rattle.fp_contest_in.proofs.Names.{AreNew}
 use Rattle.fp_contest_in.proofs.SaidBooks.{AllNew, techs_are_said}

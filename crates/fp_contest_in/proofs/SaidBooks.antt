@@ -1,12 +1,12 @@
 -- The book of technologies says the technologies that it was made of.
-use Rattle.std.proofs.Common.{◌≡◌, ℕ, zero, suc, ◌+◌, ◌<◌, ◌≤◌, ◌==◌, Bool, true, false, cond, if◌then◌else◌, List, [], ◌∷◌, ◌++◌, length, map, nat_eq, unwrap_or, slice_get, Option, Some, None, is_some, refl, sym, ap, subst, ◌∙◌, append_assoc, arith}
+use Rattle.std.proofs.Common.{◌≡◌, ℕ, ◌<◌, ◌≤◌, Bool, true, false, if◌then◌else◌, List, [], ◌∷◌, ◌++◌, length, map, nat_eq, unwrap_or, Option, Some, None, is_some, refl, sym, ap, subst, ◌∙◌, append_assoc, arith}
 use Rattle.std.proofs.lemmas.List.{append-nil, map-append, map_push, length-append}
 use Rattle.std.proofs.lemmas.Bool.{ne_eqb, eq-eqb, both_ways}
 use Rattle.std.specs.Str.{bytes_eq}
-use Rattle.fp_tech.specs.Book.{Pin, Lib, Tech, Book, no_techs, place_of, is_among, name_at, with_name, id_for, with_tech, with_lib, with_pin, more_libs, more_pins, pins_added, changed_at}
+use Rattle.fp_tech.specs.Book.{Pin, Lib, Tech, Book, no_techs, place_of, is_among, name_at, with_name, with_pin, more_libs, more_pins, pins_added, changed_at}
 use Rattle.fp_tech.specs.BookLaws.{place_within, slice_get-front}
 use Rattle.fp_tech.specs.LibNameLaws.{name_at-place, name_at-with_name}
-use Rattle.fp_contest_in.specs.Text.{LibText, TechText, lib_name_list, grown, with_pins, with_lib_text, with_lib_texts, with_tech_text, with_tech_texts}
+use Rattle.fp_contest_in.specs.Text.{LibText, TechText, lib_name_list, grown, with_pins, with_lib_text, with_lib_texts, with_tech_texts}
 use Rattle.fp_contest_in.specs.PrintedText.{lib_said, tech_said}
 use Rattle.fp_contest_in.proofs.Names.{AreNew, not_among, same_bytes}
 

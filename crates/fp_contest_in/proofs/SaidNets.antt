@@ -1,21 +1,21 @@
 -- The netlist of a problem says the instances and the nets that it was made of.
-use Rattle.std.proofs.Common.{◌≡◌, ℕ, zero, suc, ◌+◌, ◌<◌, ◌≤◌, ◌==◌, ◌&&◌, Bool, true, false, cond, List, [], ◌∷◌, ◌++◌, length, map, filter, nat_eq, unwrap_or, slice_get, Option, Some, None, is_some, option_map, option_and_then, refl, sym, ap, subst, ◌∙◌, append_assoc, arith}
+use Rattle.std.proofs.Common.{◌≡◌, ℕ, ◌+◌, ◌<◌, ◌≤◌, ◌==◌, Bool, true, false, cond, List, [], ◌∷◌, ◌++◌, length, map, filter, nat_eq, unwrap_or, slice_get, Option, Some, None, is_some, option_and_then, refl, sym, ap, ◌∙◌, append_assoc, arith}
 use Rattle.std.proofs.lemmas.List.{append-nil, length-append}
 use Rattle.std.proofs.lemmas.List.Elements.{filter-append}
 use Rattle.std.proofs.lemmas.Bool.{ne_eqb, eq-eqb, and_parts}
 use Rattle.fp_text.specs.Words.{Word}
 use Rattle.fp_text.specs.ReadingLaws.{Each}
-use Rattle.fp_base.specs.declared.ids.Die.TheVariants.{Top, Bottom}
+use Rattle.fp_base.specs.declared.ids.Die.TheVariants.{Top}
 use Rattle.fp_tech.specs.Book.{Pin, Lib, place_of, name_at, pin_names, id_for, lib_in}
 use Rattle.fp_tech.specs.LibNameLaws.{name_at-place}
 use Rattle.fp_tech.specs.Plan.{Plan}
 use Rattle.fp_netlist.specs.declared.problem.Conn.{Conn}
-use Rattle.fp_netlist.specs.Netlist.{Cell, Netlist, no_cells, lib_of, lib_at, pin_place, conn_for, with_net}
+use Rattle.fp_netlist.specs.Netlist.{Cell, Netlist, no_cells, lib_of, lib_at, conn_for, with_net}
 use Rattle.fp_netlist.specs.Points.{no_lib, no_pin, lib_on, pin_on}
 use Rattle.fp_contest_in.specs.Text.{InstText, ConnText, NetText, ProblemText, net_name_list, grown, plan_of, with_net_text, with_net_texts, cells_of, netlist_of}
 use Rattle.fp_contest_in.specs.ProblemLaws.{cell_of, insts_added, conns_added, plan-with_net_texts, cells-with_net_texts, nets-with_net_texts}
 use Rattle.fp_contest_in.specs.Grammar.{has_lib, has_pin, IsNewInst, IsNetPin, IsNewNet}
-use Rattle.fp_contest_in.specs.PrintedText.{inst_said, conn_said, net_conns, net_said, nets_said}
+use Rattle.fp_contest_in.specs.PrintedText.{inst_said, conn_said, net_conns, nets_said}
 use Rattle.fp_contest_in.proofs.Names.{place_is}
 
 -- ---- instances

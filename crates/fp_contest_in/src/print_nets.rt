@@ -66,7 +66,14 @@ fn write_conn<F: Folder>(
     let tech = dies.spec(Die::Top).tech;
     let lib = problem.lib_of(conn.cell);
     let pin = dies.book().pin_name(tech, lib, conn.top_pin);
-    write_path_line(writer, folder, name, b"Pin", problem.cell_name(conn.cell), pin);
+    write_path_line(
+        writer,
+        folder,
+        name,
+        b"Pin",
+        problem.cell_name(conn.cell),
+        pin,
+    );
 }
 
 /// Adds the lines of a net's connections.
@@ -106,14 +113,7 @@ fn write_net<F: Folder>(
     ensures goes_on { GoesOn name.now (told F.held F.made F.faults folder.new) writer.new }
 {
     let pins = problem.conns_of_net(net).len() as u32;
-    write_named_line(
-        writer,
-        folder,
-        name,
-        b"Net",
-        problem.net_name(net),
-        &[pins],
-    );
+    write_named_line(writer, folder, name, b"Net", problem.net_name(net), &[pins]);
     write_conns(writer, folder, name, problem, net);
 }
 

@@ -114,14 +114,7 @@ fn write_tech<F: Folder>(
     ensures goes_on { GoesOn name.now (told F.held F.made F.faults folder.new) writer.new }
 {
     let libs = book.libs_of(tech).len() as u32;
-    write_named_line(
-        writer,
-        folder,
-        name,
-        b"Tech",
-        book.tech_name(tech),
-        &[libs],
-    );
+    write_named_line(writer, folder, name, b"Tech", book.tech_name(tech), &[libs]);
     write_libs(writer, folder, name, book, tech);
 }
 

@@ -101,13 +101,7 @@ fn write_rows<F: Folder>(writer: &mut Writer, folder: &mut F, name: &str, dies: 
 }
 
 /// Adds the line of a die's technology.
-fn write_die_tech<F: Folder>(
-    writer: &mut Writer,
-    folder: &mut F,
-    name: &str,
-    dies: &Dies,
-    die: Die,
-)
+fn write_die_tech<F: Folder>(writer: &mut Writer, folder: &mut F, name: &str, dies: &Dies, die: Die)
     requires goes_on { GoesOn name.now (told F.held F.made F.faults folder.old) writer.old }
     ensures adds { Adds name.now (section_line (tech_names dies.now.book) (setup_said dies.now) (sections.Tech die)) (told F.held F.made F.faults folder.old)
         (told F.held F.made F.faults folder.new) writer.old writer.new }
@@ -162,13 +156,10 @@ fn write_sections<F: Folder>(writer: &mut Writer, folder: &mut F, name: &str, di
 
 /// Writes the canonical text of a problem, and takes no memory: the technologies with their library cells and pins, the
 /// nine sections in the usual order, the instances, and the nets with their pins in file order. One statement a line,
-/// single spaces, a line feed behind each line, plain decimal numbers. `Failed` comes where the device failed; what the
-/// name then holds is not said.
-pub fn print_problem<F: Folder>(
-    folder: &mut F,
-    name: &str,
-    problem: &Problem,
-) -> Result<(), Failed>
+/// single spaces, a line feed behind each line, plain decimal numbers: the contest's statements in its usual order, in a
+/// layout of our own. A pin of a net is named as in the top die's technology. `Failed` comes where the device failed;
+/// what the name then holds is not said.
+pub fn print_problem<F: Folder>(folder: &mut F, name: &str, problem: &Problem) -> Result<(), Failed>
     ensures written { OnOk result (F.held folder.new ≡ sets_file name.now (λ _. problem_text problem.now) (F.held folder.old)) }
     ensures others { OthersStay name.now (F.held folder.old) (F.held folder.new) }
     ensures later { F.faults folder.old ≤ F.faults folder.new }

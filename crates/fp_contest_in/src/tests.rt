@@ -1,7 +1,7 @@
-//! The reader on small inputs.
+//! The reader and the printer on small inputs.
 
-use crate::read_problem;
-use fp_base::{CellId, Die, LibId, NetId, TechId};
+use crate::{print_problem, read_problem};
+use fp_base::{Die, LibId, MemFolder, NetId, TechId};
 use fp_netlist::Problem;
 use fp_text::{Kind, TextFault};
 use std::alloc::{AllocError, Global};
@@ -24,6 +24,17 @@ TerminalSpacing 1\n";
 /// Its instances and the head of its nets: 58 bytes.
 const INSTS: &str = "NumInstances 2\nInst C1 MC1\nInst C2 MC1\nNumNets 1\nNet N1 2\n";
 
+/// The pins of its net: 20 bytes.
+const PINS: &str = "Pin C1/P1\nPin C2/P1\n";
+
+/// The same problem with other blanks, leading zeros, and the sections from the last to the
+/// first.
+const LOOSE: &str =
+    "\r\nNumTechnologies\t2\r\nTech TA 01\r\n\tLibCell MC1 4  10 1\r\n\tPin P1 1 2\r\n\
+Tech\tTB\t1\r\nLibCell MC1 5 10 1 Pin P1 2 3\r\n\r\nTerminalSpacing 1\r\nTerminalSize\t2 2\r\nBottomDieTech TB\r\n\
+TopDieTech TA\r\nBottomDieRows 0 0 20 10 2\r\nTopDieRows 0 0\t20 10 2\r\nBottomDieMaxUtil 050\r\nTopDieMaxUtil 10\r\n\
+DieSize 0 0 20 20\r\nNumInstances 2\r\nInst C1 MC1\r\nInst\tC2\tMC1\r\nNumNets 1\r\nNet N1 2\r\n\tPin C1/P1\r\n\tPin C2/P1";
+
 /// The parts of a text, one after the other.
 fn joined(alloc: Global, parts: &[&str]) -> Result<String, AllocError> {
     let mut text = String::new(alloc);
@@ -44,6 +55,20 @@ fn problem_of(alloc: Global, parts: &[&str]) -> Result<Problem, Fail> {
 fn fault_of(alloc: Global, parts: &[&str]) -> Result<Option<TextFault>, AllocError> {
     let text = joined(alloc, parts)?;
     Ok(read_problem(alloc, text.as_bytes()).err())
+}
+
+/// Whether a problem is printed as this text.
+fn is_printed(alloc: Global, problem: &Problem, text: &[u8]) -> Result<bool, Fail> {
+    let mut folder = MemFolder::new(alloc, &[], 1, 400)?;
+    let answer = print_problem(&mut folder, "input", problem);
+    Ok(answer.is_ok() && folder.file("input") == Some(text))
+}
+
+/// Whether the problem of a text is printed as another text.
+fn prints(alloc: Global, parts: &[&str], canonical: &[&str]) -> Result<bool, Fail> {
+    let text = joined(alloc, canonical)?;
+    let problem = problem_of(alloc, parts)?;
+    is_printed(alloc, &problem, text.as_bytes())
 }
 
 #[test]
@@ -103,5 +128,11 @@ fn tells_the_first_fault(rt: HostRuntime) -> Result<(), Fail> {
         let fault = fault_of(rt.alloc(), &[front, insts, tail])?;
         assert_eq!(&rt; fault, Some(TextFault::Wrong { at, kind }), "{insts}{tail}");
     }
+    Ok(())
+}
+
+#[test]
+fn prints_the_canonical_text(rt: HostRuntime) -> Result<(), Fail> {
+    assert!(rt; prints(rt.alloc(), &[LOOSE], &[FRONT, INSTS, PINS])?);
     Ok(())
 }
