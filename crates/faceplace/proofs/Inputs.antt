@@ -93,9 +93,13 @@ pub right_input : (held : Option Files) (name bytes : List ℕ) (p : Netlist) �
     → WhereTold held (λ files. HoldsOnly (bytes_of files name) p)
 right_input None name bytes p whole short reads only = tt
 right_input (Some files) name bytes p whole short reads only =
-    subst (λ (o : Option (List ℕ)). HoldsOnly o p) (sym whole) (short, reads, λ other says.
-    let found = only says.0 says.1 in
-    says.2 ∙ ap netlist_of (same_text says.0 found.0 found.1) ∙ sym found.2)
+    subst (λ (o : Option (List ℕ)). HoldsOnly o p) (sym whole) (
+      short,
+      reads,
+      λ other says.
+          let found = only says.0 says.1 in
+          says.2 ∙ ap netlist_of (same_text says.0 found.0 found.1) ∙ sym found.2,
+    )
 
 -- and so is a drawing
 same_drawing : (a b : Drawing) → drawn_as a ≡ drawn_as b → a ≡ b

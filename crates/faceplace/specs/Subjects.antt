@@ -1,5 +1,5 @@
 -- What breaks a rule is one of the problem.
-use Rattle.std.specs.Prelude.{ℕ, ◌<◌, length}
+use Rattle.std.specs.Prelude.{◌<◌, length}
 use Rattle.fp_netlist.specs.Netlist.{Netlist}
 use Rattle.fp_place.specs.declared.judge.Subject.{Subject}
 use Rattle.fp_place.specs.declared.judge.Subject.TheVariants.{Cell, Net, Side}

@@ -26,7 +26,7 @@ BottomDieMaxUtil 90\nTopDieRows 0 0 30 10 3\nBottomDieRows 0 0 30 15 2\nTopDieTe
 TerminalSpacing 4\nNumInstances 6\nInst C1 MC1\nInst C2 MC2\nInst C3 MC1\nInst C4 MC2\nInst C5 MC2\nInst C6 MC1\nNumNets 3\n\
 Net N1 3\nPin C1/P1\nPin C2/P1\nPin C6/P1\nNet N2 2\nPin C3/P1\nPin C4/P1\nNet N3 3\nPin C4/P2\nPin C5/P2\nPin C2/P2\n";
 
-/// Lines of an input, each with the line that takes its place.
+/// Lines of a text, each with the line that takes its place.
 type Changes = [(&'static str, &'static str); 5];
 
 const NONE: (&str, &str) = ("", "");
@@ -37,8 +37,13 @@ const UNCHANGED: Changes = [NONE, NONE, NONE, NONE, NONE];
 const PLACED: &str =
     "TopDiePlacement 1\nInst C1 0 0\nBottomDiePlacement 1\nInst C2 0 0\nNumTerminals 1\nTerminal N1 2 2\n";
 
-/// An input with its lines changed; one that is changed to nothing is left out.
-fn with_changes(alloc: Global, text: &str, changes: &Changes) -> Result<String, AllocError> {
+/// The output of the contest's case.
+const CONTEST_PLACED: &str =
+    "TopDiePlacement 4\nInst C1 0 0\nInst C2 7 0\nInst C3 16 0\nInst C4 0 10\nBottomDiePlacement 2\nInst C5 0 0\nInst C6 12 0\n\
+NumTerminals 2\nTerminal N1 7 7\nTerminal N3 17 7\n";
+
+/// A text with its lines changed; one that is changed to nothing is left out.
+fn with_changes(alloc: Global, text: &str, changes: &[(&str, &str)]) -> Result<String, AllocError> {
     let mut input = String::new(alloc);
     for old in text.lines() {
         let change = changes.iter().find(|change| change.0 == old);
@@ -68,11 +73,12 @@ struct Ended {
     folder: MemFolder,
 }
 
-/// A run of these words over a folder whose `a` holds the input, if any, and whose calls of these numbers fail.
+/// A run of these words over a folder whose `a` holds the input and `o` the output, if any, and whose calls of these numbers fail.
 fn run_words(
     alloc: Global,
     words: &str,
     input: Option<&str>,
+    output: Option<&str>,
     folder_fails: &[u64],
     sink_fails: &[u64],
 ) -> Result<Ended, Fail> {
@@ -80,6 +86,9 @@ fn run_words(
     let mut out = MemSink::new(alloc, sink_fails, 64)?;
     if let Some(bytes) = input {
         let _ = folder.put_file("a", bytes.as_bytes());
+    }
+    if let Some(bytes) = output {
+        let _ = folder.put_file("o", bytes.as_bytes());
     }
     let words = words_of(alloc, words)?;
     let status = run(alloc, words.as_slice(), &mut folder, &mut out);
@@ -148,12 +157,11 @@ fn seeds_are_written_with_their_scores(rt: HostRuntime) -> Result<(), Fail> {
             CONTEST,
             UNCHANGED,
             "seed 83 first top cut 2 slots 4\n",
-            "TopDiePlacement 4\nInst C1 0 0\nInst C2 7 0\nInst C3 16 0\nInst C4 0 10\nBottomDiePlacement 2\nInst C5 0 0\nInst C6 12 0\n\
-NumTerminals 2\nTerminal N1 7 7\nTerminal N3 17 7\n",
+            CONTEST_PLACED,
         ),
     ] {
-        let input = with_changes(rt.alloc(), text, &changes)?;
-        let end = run_words(rt.alloc(), "seed a o", Some(input.as_str()), &[], &[])?;
+        let input = with_changes(rt.alloc(), text, changes.as_slice())?;
+        let end = run_words(rt.alloc(), "seed a o", Some(input.as_str()), None, &[], &[])?;
         assert_eq!(rt; end.status, 0, "{report}");
         assert_eq!(rt; end.out.written(), report.as_bytes(), "{report}");
         assert!(rt; end.folder.file("o") == Some(output.as_bytes()), "{report}");
@@ -181,8 +189,8 @@ fn tells_why_no_seed_stands(rt: HostRuntime) -> Result<(), Fail> {
         (HIGH, lower, "unfit top cell C2 bottom cell C2\n"),
         (SMALL, two_nets, "unfit top slots 2 1 bottom slots 2 1\n"),
     ] {
-        let input = with_changes(rt.alloc(), text, &changes)?;
-        let end = run_words(rt.alloc(), "seed a o", Some(input.as_str()), &[], &[])?;
+        let input = with_changes(rt.alloc(), text, changes.as_slice())?;
+        let end = run_words(rt.alloc(), "seed a o", Some(input.as_str()), None, &[], &[])?;
         assert_eq!(rt; end.status, 4, "{report}");
         assert_eq!(rt; end.out.written(), report.as_bytes(), "{report}");
         assert!(rt; end.folder.file("o").is_none(), "{report}");
@@ -231,8 +239,8 @@ fn reports_the_first_fault(rt: HostRuntime) -> Result<(), Fail> {
         ("Pin C1/P1", "Pin C1P1", "input a 330 name\n"),
         ("Pin C1/P1", "Pin C9/P1", "input a 330 unknown\n"),
     ] {
-        let input = with_changes(rt.alloc(), SMALL, &[(line, text), NONE, NONE, NONE, NONE])?;
-        let end = run_words(rt.alloc(), "seed a o", Some(input.as_str()), &[], &[])?;
+        let input = with_changes(rt.alloc(), SMALL, &[(line, text)])?;
+        let end = run_words(rt.alloc(), "seed a o", Some(input.as_str()), None, &[], &[])?;
         assert_eq!(rt; end.status, 3, "{text}");
         assert_eq!(rt; end.out.written(), report.as_bytes(), "{text}");
         assert!(rt; end.folder.file("o").is_none(), "{text}");
@@ -241,9 +249,138 @@ fn reports_the_first_fault(rt: HostRuntime) -> Result<(), Fail> {
 }
 
 #[test]
+fn tells_the_score_or_the_rule_that_is_broken(rt: HostRuntime) -> Result<(), Fail> {
+    for (first, second, percent, status, report) in [
+        (NONE, NONE, "40", 0, "score 83\n"),
+        (NONE, NONE, "36", 0, "score 83\n"),
+        (NONE, NONE, "35", 5, "broken 5 top\n"),
+        (
+            ("Inst C6 12 0", ""),
+            ("BottomDiePlacement 2", "BottomDiePlacement 1"),
+            "40",
+            5,
+            "broken 1 C6\n",
+        ),
+        (
+            ("Inst C4 0 10", "Inst C4 0 11"),
+            NONE,
+            "40",
+            5,
+            "broken 2 C4\n",
+        ),
+        (
+            ("Inst C2 7 0", "Inst C2 6 0"),
+            NONE,
+            "40",
+            5,
+            "broken 4 C1\n",
+        ),
+        (
+            ("NumTerminals 2", "NumTerminals 3"),
+            ("Terminal N3 17 7", "Terminal N3 17 7\nTerminal N2 7 17"),
+            "40",
+            5,
+            "broken 7 N2\n",
+        ),
+        (
+            ("Terminal N1 7 7", "Terminal N1 6 7"),
+            NONE,
+            "40",
+            5,
+            "broken 8 N1\n",
+        ),
+        (
+            ("Terminal N3 17 7", "Terminal N3 16 7"),
+            NONE,
+            "40",
+            5,
+            "broken 9 N1\n",
+        ),
+    ] {
+        let limit = format!(in rt.alloc(); "TopDieMaxUtil {percent}")?;
+        let input = with_changes(rt.alloc(), CONTEST, &[("TopDieMaxUtil 40", limit.as_str())])?;
+        let output = with_changes(rt.alloc(), CONTEST_PLACED, &[first, second])?;
+        let (input, output) = (Some(input.as_str()), Some(output.as_str()));
+        let end = run_words(rt.alloc(), "score a o", input, output, &[], &[])?;
+        assert_eq!(rt; end.status, status, "{report}");
+        assert_eq!(rt; end.out.written(), report.as_bytes(), "{report}");
+    }
+    Ok(())
+}
+
+#[test]
+fn reports_the_first_fault_of_an_output_file(rt: HostRuntime) -> Result<(), Fail> {
+    for (old, new, status, report) in [
+        ("", "", 0, "score 2\n"),
+        (
+            "TopDiePlacement 1",
+            "TopDiePlacement 262145",
+            3,
+            "input o 16 limit\n",
+        ),
+        (
+            "TopDiePlacement 1",
+            "TopDiePlacement 2",
+            3,
+            "input o 30 word\n",
+        ),
+        ("Inst C1 0 0", "Inst C9 0 0", 3, "input o 23 unknown\n"),
+        (
+            "Inst C1 0 0",
+            "Inst C1 1073741825 0",
+            3,
+            "input o 26 number\n",
+        ),
+        ("Terminal N1 2 2", "", 3, "input o 78 ended\n"),
+        (
+            "Terminal N1 2 2",
+            "Terminal N9 2 2",
+            3,
+            "input o 87 unknown\n",
+        ),
+        (
+            "Terminal N1 2 2",
+            "Terminal N1 2 2\ny",
+            3,
+            "input o 94 trailing\n",
+        ),
+        ("Inst C2 0 0", "Inst C1 0 0", 5, "broken 1 C1\n"),
+    ] {
+        let output = with_changes(rt.alloc(), PLACED, &[(old, new)])?;
+        let end = run_words(
+            rt.alloc(),
+            "score a o",
+            Some(SMALL),
+            Some(output.as_str()),
+            &[],
+            &[],
+        )?;
+        assert_eq!(rt; end.status, status, "{report}");
+        assert_eq!(rt; end.out.written(), report.as_bytes(), "{report}");
+        assert!(rt; end.folder.file("o") == Some(output.as_bytes()), "{report}");
+    }
+    Ok(())
+}
+
+#[test]
+fn a_missing_output_file_is_told(rt: HostRuntime) -> Result<(), Fail> {
+    let end = run_words(rt.alloc(), "score a o", Some(SMALL), None, &[], &[])?;
+    assert_eq!(rt; end.status, 3);
+    assert_eq!(rt; end.out.written(), b"input o 0 missing\n".as_slice());
+    Ok(())
+}
+
+#[test]
 fn other_words_are_no_request(rt: HostRuntime) -> Result<(), Fail> {
-    for words in ["", "seed a", "seed a a", "place a o c", "seed a o c"] {
-        let end = run_words(rt.alloc(), words, None, &[], &[])?;
+    for words in [
+        "",
+        "seed a",
+        "seed a a",
+        "score a a",
+        "place a o c",
+        "seed a o c",
+    ] {
+        let end = run_words(rt.alloc(), words, None, None, &[], &[])?;
         assert_eq!(rt; end.status, 2, "{words}");
         assert_eq!(rt; end.out.written(), b"words\n".as_slice(), "{words}");
         assert_eq!(rt; end.folder.calls(), 0, "{words}");
@@ -253,7 +390,7 @@ fn other_words_are_no_request(rt: HostRuntime) -> Result<(), Fail> {
 
 #[test]
 fn a_missing_file_is_told_and_none_is_made(rt: HostRuntime) -> Result<(), Fail> {
-    let end = run_words(rt.alloc(), "seed a o", None, &[], &[])?;
+    let end = run_words(rt.alloc(), "seed a o", None, None, &[], &[])?;
     assert_eq!(rt; end.status, 3);
     assert_eq!(rt; end.out.written(), b"input a 0 missing\n".as_slice());
     assert!(rt; end.folder.file("o").is_none());
@@ -262,7 +399,7 @@ fn a_missing_file_is_told_and_none_is_made(rt: HostRuntime) -> Result<(), Fail> 
 
 #[test]
 fn a_folder_that_fails_at_once_prints_nothing(rt: HostRuntime) -> Result<(), Fail> {
-    let end = run_words(rt.alloc(), "seed a o", Some(SMALL), &[0], &[])?;
+    let end = run_words(rt.alloc(), "seed a o", Some(SMALL), None, &[0], &[])?;
     assert_eq!(rt; end.status, 6);
     assert_eq!(rt; end.out.calls(), 0);
     Ok(())
@@ -270,7 +407,7 @@ fn a_folder_that_fails_at_once_prints_nothing(rt: HostRuntime) -> Result<(), Fai
 
 #[test]
 fn a_sink_that_fails_leaves_the_output_whole(rt: HostRuntime) -> Result<(), Fail> {
-    let end = run_words(rt.alloc(), "seed a o", Some(SMALL), &[], &[0])?;
+    let end = run_words(rt.alloc(), "seed a o", Some(SMALL), None, &[], &[0])?;
     assert_eq!(rt; end.status, 6);
     assert!(rt; end.folder.file("o") == Some(PLACED.as_bytes()));
     Ok(())

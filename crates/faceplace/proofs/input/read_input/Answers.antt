@@ -1,5 +1,4 @@
-use Rattle.std.proofs.Common.{◌≡◌, ◌≤◌, length, Err, subst, sym}
-use Rattle.faceplace.specs.Report.{most_input}
+use Rattle.std.proofs.Common.{◌≡◌, Err, subst, sym}
 use Rattle.faceplace.specs.Input.{GivesInput}
 use Rattle.faceplace.proofs.Inputs.{right_input, faulty_input}
 use Rattle.faceplace.proofs.input.read_input.Goals as goal
