@@ -12,6 +12,14 @@ DieSize 0 0 20 20\nTopDieMaxUtil 10\nBottomDieMaxUtil 50\nTopDieRows 0 0 20 10 2
 BottomDieTech TB\nTerminalSize 2 2\nTerminalSpacing 1\nNumInstances 2\nInst C1 MC1\nInst C2 MC1\nNumNets 1\nNet N1 2\nPin C1/P1\n\
 Pin C2/P1\n";
 
+/// The small input with other blanks, and its sections in the reverse order.
+const LOOSE: &str =
+    "NumTechnologies\t2\r\nTech\tTA\t1\r\nLibCell\tMC1\t4\t10\t1\r\nPin\tP1\t1\t2\r\nTech\tTB\t1\r\n\
+LibCell\tMC1\t5\t10\t1\r\nPin\tP1\t2\t3\r\nTerminalSpacing\t1\r\nTerminalSize\t2\t2\r\nBottomDieTech\tTB\r\nTopDieTech\tTA\r\n\
+BottomDieRows\t0\t0\t20\t10\t2\r\nTopDieRows\t0\t0\t20\t10\t2\r\nBottomDieMaxUtil\t50\r\nTopDieMaxUtil\t10\r\n\
+DieSize\t0\t0\t20\t20\r\nNumInstances\t2\r\nInst\tC1\tMC1\r\nInst\tC2\tMC1\r\nNumNets\t1\r\nNet\tN1\t2\r\n\
+Pin\tC1/P1\r\nPin\tC2/P1\r\n";
+
 /// A high cell that fits the top die alone, behind a cell that fills it.
 const HIGH: &str =
     "NumTechnologies 1\nTech T 2\nLibCell S 4 10 1\nPin P 0 0\nLibCell H 4 20 1\nPin P 0 0\nDieSize 0 0 20 20\n\
@@ -389,11 +397,28 @@ fn other_words_are_no_request(rt: HostRuntime) -> Result<(), Fail> {
 }
 
 #[test]
-fn a_missing_file_is_told_and_none_is_made(rt: HostRuntime) -> Result<(), Fail> {
-    let end = run_words(rt.alloc(), "seed a o", None, None, &[], &[])?;
-    assert_eq!(rt; end.status, 3);
-    assert_eq!(rt; end.out.written(), b"input a 0 missing\n".as_slice());
-    assert!(rt; end.folder.file("o").is_none());
+fn a_missing_or_empty_file_is_told_and_none_is_made(rt: HostRuntime) -> Result<(), Fail> {
+    for (input, report) in [
+        (None, "input a 0 missing\n"),
+        (Some(""), "input a 0 ended\n"),
+    ] {
+        let end = run_words(rt.alloc(), "seed a o", input, None, &[], &[])?;
+        assert_eq!(rt; end.status, 3, "{report}");
+        assert_eq!(rt; end.out.written(), report.as_bytes(), "{report}");
+        assert!(rt; end.folder.file("o").is_none(), "{report}");
+    }
+    Ok(())
+}
+
+#[test]
+fn blanks_and_the_order_of_sections_change_nothing(rt: HostRuntime) -> Result<(), Fail> {
+    let end = run_words(rt.alloc(), "seed a o", Some(LOOSE), None, &[], &[])?;
+    assert_eq!(rt; end.status, 0);
+    assert_eq!(rt;
+        end.out.written(),
+        b"seed 2 first top cut 1 slots 36\n".as_slice()
+    );
+    assert!(rt; end.folder.file("o") == Some(PLACED.as_bytes()));
     Ok(())
 }
 
