@@ -20,6 +20,7 @@ pub mod Placed
 pub mod PlacedLaws
 pub mod Places
 pub mod Seen
+pub mod Settled
 pub mod Standing
 pub use Rattle.fp_netlist.specs.Netlist
 pub use Rattle.fp_netlist.specs.Points
