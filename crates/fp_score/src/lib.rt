@@ -2,11 +2,13 @@
 #![tactic(auto)]
 
 mod lengths;
+mod own;
 mod reach;
 mod reaches;
 mod stop;
 
 pub use lengths::{net_length, score};
+pub use own::Axis;
 pub use stop::Stop;
 
 #[cfg(test)]
