@@ -38,8 +38,9 @@ fn pin(problem: &Problem, placement: &Placement, conn: ConnId) -> PinPlace
     }
 }
 
-/// The reach of a net's pins on each die, without its terminal.
-fn reaches(problem: &Problem, placement: &Placement, net: NetId) -> Reaches
+/// What a net's pins reach on each die, without its terminal: the least rectangle around them, from 0 to 2^31 on each axis, or none
+/// where the net has no pin there.
+pub fn net_reaches(problem: &Problem, placement: &Placement, net: NetId) -> Reaches
     requires net { net.0 < length problem.now.nets }
     requires of_problem { IsPlacementOf problem.now placement.now }
     ensures reaches { result ≡ pins_reached problem.now (places_of placement.now) net.0 }
@@ -62,7 +63,7 @@ pub fn net_length(problem: &Problem, placement: &Placement, net: NetId) -> u64
     ensures length { pos result ≡ net_length problem.now (places_of placement.now) placement.now.terminals net.0 }
     ensures small { result < 2 ^ 34 }
 {
-    reaches(problem, placement, net)
+    net_reaches(problem, placement, net)
         .with_terminal(placement.terminal(net))
         .length()
 }

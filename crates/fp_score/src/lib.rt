@@ -7,8 +7,10 @@ mod reach;
 mod reaches;
 mod stop;
 
-pub use lengths::{net_length, score};
+pub use lengths::{net_length, net_reaches, score};
 pub use own::Axis;
+pub use reach::Reach;
+pub use reaches::Reaches;
 pub use stop::Stop;
 
 #[cfg(test)]

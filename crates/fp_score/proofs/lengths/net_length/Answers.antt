@@ -11,4 +11,4 @@ pub returns-clause-length : goal.returns-clause-length
 returns-clause-length c =
     c.length.ensures.length
     ∙ length_is c.args.problem.now c.args.placement.now c.args.net.0 c.terminal.result c.with_terminal.result c.terminal.ensures c.requires.net c.requires.terminals
-    (c.with_terminal.ensures.with ∙ ap (λ (r : Reaches). with_terminal r c.terminal.result) c.reaches.ensures.reaches)
+    (c.with_terminal.ensures.with ∙ ap (λ (r : Reaches). with_terminal r c.terminal.result) c.net_reaches.ensures.reaches)

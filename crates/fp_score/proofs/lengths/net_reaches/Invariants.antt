@@ -3,7 +3,7 @@ use Rattle.fp_netlist.specs.Netlist.{conns_of_net}
 use Rattle.fp_place.specs.Placed.{places_of}
 use Rattle.fp_score.specs.Reaches.{AreNear}
 use Rattle.fp_score.proofs.Pins.{Walked}
-use Rattle.fp_score.proofs.lengths.reaches.Given as goal
+use Rattle.fp_score.proofs.lengths.net_reaches.Given as goal
 
 abbrev pub invariant-loop-conn : goal.invariant-loop-conn
 invariant-loop-conn l = record {

@@ -5,7 +5,7 @@ use Rattle.fp_place.specs.Placed.{places_of}
 use Rattle.fp_score.specs.Score.{point}
 use Rattle.fp_score.specs.Reaches.{die_of, with_point}
 use Rattle.fp_score.proofs.Pins.{Walked, walk_starts, walk_on, walk_ends, conn_next, conn_within, conns_end}
-use Rattle.fp_score.proofs.lengths.reaches.Goals as goal
+use Rattle.fp_score.proofs.lengths.net_reaches.Goals as goal
 
 abbrev none : ConnId
 none = record { 0 = 0 }
