@@ -18,8 +18,8 @@ use Rattle.fp_score.specs.FirstFit.{Seat, seat_dies, seat_places, first_fit}
 use Rattle.fp_score.specs.Score.{score}
 use Rattle.fp_score.specs.Terminals.{AreOnCuts}
 use Rattle.fp_out.specs.OutText.{out_text}
-use Rattle.fp_seed.specs.declared.two_fits.Seeded.{Seeded}
-use Rattle.fp_seed.specs.declared.two_fits.SeedFault.TheVariants as faults
+use Rattle.fp_seed.specs.declared.seeding.Seeded.{Seeded}
+use Rattle.fp_seed.specs.declared.seeding.SeedFault.TheVariants as faults
 use Rattle.fp_seed.specs.Seeded.{SeedGives, IsSeated}
 use Rattle.fp_seed.specs.SeededLaws.{not_both}
 use Rattle.fp_base.specs.Files.{Files}

@@ -17,7 +17,6 @@ pub mod Loops
 pub mod InRange
 pub mod SectionLoop
 pub mod Dies
-pub mod Adding
 pub mod Pieces
 pub mod PrintedTechs
 pub mod PrintedNets

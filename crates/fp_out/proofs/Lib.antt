@@ -1,4 +1,3 @@
-mod Adding
 mod DrawingRead
 mod Known
 mod LinesRead

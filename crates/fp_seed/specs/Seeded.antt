@@ -6,9 +6,9 @@ use Rattle.fp_netlist.specs.Netlist.{Netlist}
 use Rattle.fp_place.specs.declared.placement.Spot.{Spot}
 use Rattle.fp_place.specs.Placed.{Placed, places_of}
 use Rattle.fp_score.specs.FirstFit.{Seat, seat_dies, seat_places, first_fit, fit_terminals, IsSeed}
-use Rattle.fp_seed.specs.declared.two_fits.Seeded.{Seeded}
-use Rattle.fp_seed.specs.declared.two_fits.SeedFault.{SeedFault}
-use Rattle.fp_seed.specs.declared.two_fits.SeedFault.TheVariants.{Unfit, Memory}
+use Rattle.fp_seed.specs.declared.seeding.Seeded.{Seeded}
+use Rattle.fp_seed.specs.declared.seeding.SeedFault.{SeedFault}
+use Rattle.fp_seed.specs.declared.seeding.SeedFault.TheVariants.{Unfit, Memory}
 
 -- where a spot sits
 abbrev pub spot_seat : Spot → Seat

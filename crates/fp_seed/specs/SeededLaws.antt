@@ -10,8 +10,8 @@ use Rattle.fp_place.specs.Drawing.{drawing_of}
 use Rattle.fp_place.specs.Placed.{Placed, drawn_of}
 use Rattle.fp_score.specs.declared.stop.Stop.{Stop}
 use Rattle.fp_score.specs.FirstFit.{Seat, seat_dies, seat_places, first_fit, fit_terminals, IsSeed}
-use Rattle.fp_seed.specs.declared.two_fits.Seeded.{Seeded}
-use Rattle.fp_seed.specs.declared.two_fits.SeedFault.TheVariants.{Unfit}
+use Rattle.fp_seed.specs.declared.seeding.Seeded.{Seeded}
+use Rattle.fp_seed.specs.declared.seeding.SeedFault.TheVariants.{Unfit}
 use Rattle.fp_seed.specs.Seeded.{IsSeated, SeedGives}
 
 stands_or_stops : (seats : List Seat) (stop : Stop) (r : Result (List Seat) Stop) → r ≡ Ok seats → r ≡ Err stop → ⊥

@@ -4,10 +4,10 @@
 mod fit;
 mod seat;
 mod seating;
+mod seeding;
 mod shelves;
-mod two_fits;
 
-pub use two_fits::{SeedFault, Seeded, seed};
+pub use seeding::{SeedFault, Seeded, seed};
 
 #[cfg(test)]
 mod tests;

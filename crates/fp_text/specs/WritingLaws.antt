@@ -1,6 +1,6 @@
 -- Calls of a writer one after the other.
-use Rattle.std.specs.Prelude.{◌≡◌, ℕ, ◌≤◌, Bool, true, false, List, [], ◌++◌, Option, Some, None, option_map, unwrap_or}
-use Rattle.std.proofs.Common.{refl, sym, ap, ◌∙◌, arith, inl, inr}
+use Rattle.std.specs.Prelude.{◌≡◌, ℕ, ◌≤◌, Bool, true, false, List, [], ◌++◌, Option, Some, None, option_map, unwrap_or, Result, Ok, Err, OnOk, is_err}
+use Rattle.std.proofs.Common.{refl, sym, ap, subst, ◌∙◌, arith, inl, inr}
 use Rattle.std.proofs.lemmas.Bool.{cases_Bool, both_ways, cond-false}
 use Rattle.fp_base.specs.Files.{Files, bytes_of, sets_file, followed_by, OthersStay}
 use Rattle.fp_base.specs.FilesLaws.{bytes_set, is_set, others_refl, others_then, rose_later, rose_since, followed_none, followed_then}
@@ -73,6 +73,19 @@ adds_then name first second one two three u v w p q = record {
   later = let le : one.faults ≤ two.faults = p.later in let le' : two.faults ≤ three.faults =
       q.later in omega arith;
 }
+
+-- adds_then, where the two runs say which pieces and moments they are of
+pub in_turn : {name first second : List ℕ} {one two three : Told} {u v w : Waiting}
+    → Adds name first one two u v → Adds name second two three v w
+    → Adds name (first ++ second) one three u w
+in_turn {name = name} {first = first} {second = second} {one = one} {two = two} {three = three}
+    {u = u} {v = v} {w = w} p q = adds_then name first second one two three u v w p q
+
+-- a piece told by another term
+pub as_piece : {name piece other : List ℕ} {one two : Told} {u v : Waiting} → piece ≡ other
+    → Adds name piece one two u v → Adds name other one two u v
+as_piece {name = name} {one = one} {two = two} {u = u} {v = v} same adds =
+    subst (λ (text : List ℕ). Adds name text one two u v) same adds
 
 -- a new writer may go on, and so may each one that was called
 pub goes_on_start : (name : List ℕ) (old new : Told) (writer : Waiting) → Starts name old new writer
@@ -250,3 +263,14 @@ is_written name text before started ended after first last new adds end =
     set_is name text before.held after.held holds
     (others_then name before.held ended.held after.held
     (others_then name before.held started.held ended.held new.others adds.others) end.others)
+
+-- what is_written says, of whatever the last call answered
+pub written_on_ok : {T E : Type 0} {name text : List ℕ} {before started ended after : Told}
+    {first last : Waiting} (result : Result T E)
+    → Starts name before started first → Adds name text started ended first last
+    → Finishes name ended after last (is_err result)
+    → OnOk result (after.held ≡ sets_file name (λ _. text) before.held)
+written_on_ok {name = name} {text = text} {before = before} {started = started} {ended = ended}
+    {after = after} {first = first} {last = last} (Ok x) start adds end =
+    is_written name text before started ended after first last start adds end
+written_on_ok (Err e) start adds end = tt

@@ -3,7 +3,7 @@ use Rattle.fp_tech.specs.Slots.{slot_count}
 use Rattle.fp_score.specs.FirstFitLaws.{stop_within}
 use Rattle.fp_base.specs.declared.ids.Die.TheVariants as dies
 use Rattle.fp_seed.specs.Seeded.{SeedGives}
-use Rattle.fp_seed.specs.declared.two_fits.SeedFault.TheVariants as faults
+use Rattle.fp_seed.specs.declared.seeding.SeedFault.TheVariants as faults
 use Rattle.fp_place.specs.Placed.{drawn_of}
 use Rattle.fp_out.specs.OutText.{out_text}
 use Rattle.faceplace.specs.Causes.{cause_of}

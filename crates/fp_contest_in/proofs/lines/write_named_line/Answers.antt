@@ -1,4 +1,4 @@
-use Rattle.fp_contest_in.proofs.Adding.{in_turn}
+use Rattle.fp_text.specs.WritingLaws.{in_turn}
 use Rattle.fp_contest_in.proofs.lines.write_named_line.Goals as goal
 
 pub returns-clause-adds : goal.returns-clause-adds

@@ -2,9 +2,8 @@ use Rattle.std.proofs.Common.{ap, decimal, get_or, arith}
 use Rattle.std.proofs.lemmas.List.{length-map}
 use Rattle.std.proofs.lemmas.Option.{slice_get-get_or}
 use Rattle.fp_text.specs.Writing.{told}
-use Rattle.fp_text.specs.WritingLaws.{adds_nothing}
+use Rattle.fp_text.specs.WritingLaws.{adds_nothing, in_turn, as_piece}
 use Rattle.fp_contest_in.specs.PrintedText.{spaced, numbers}
-use Rattle.fp_contest_in.proofs.Adding.{in_turn, as_piece}
 use Rattle.fp_contest_in.proofs.Pieces.{piece_more, piece_all, mapped_at}
 use Rattle.fp_contest_in.proofs.lines.write_numbers.Goals as goal
 

@@ -1,4 +1,4 @@
-use Rattle.fp_contest_in.proofs.Adding.{in_turn, as_piece}
+use Rattle.fp_text.specs.WritingLaws.{in_turn, as_piece}
 use Rattle.fp_contest_in.proofs.Pieces.{path_is}
 use Rattle.fp_contest_in.proofs.lines.write_path_line.Goals as goal
 

@@ -4,7 +4,7 @@ use Rattle.fp_tech.specs.Book.{names_of, pins_in}
 use Rattle.fp_netlist.specs.declared.problem.Conn.{Conn}
 use Rattle.fp_netlist.specs.Netlist.{cell_names}
 use Rattle.fp_contest_in.specs.PrintedText.{conn_line, conn_said}
-use Rattle.fp_contest_in.proofs.Adding.{as_piece}
+use Rattle.fp_text.specs.WritingLaws.{as_piece}
 use Rattle.fp_contest_in.proofs.PrintedNets.{conn_written}
 use Rattle.fp_contest_in.proofs.print_nets.write_conn.Goals as goal
 

@@ -3,7 +3,7 @@ use Rattle.std.proofs.lemmas.Option.{slice_get_within}
 use Rattle.fp_base.specs.declared.ids.ConnId.{ConnId}
 use Rattle.fp_netlist.specs.Netlist.{cell_names}
 use Rattle.fp_contest_in.specs.PrintedText.{conn_line, conn_said, net_conns}
-use Rattle.fp_contest_in.proofs.Adding.{in_turn, as_piece}
+use Rattle.fp_text.specs.WritingLaws.{in_turn, as_piece}
 use Rattle.fp_contest_in.proofs.Pieces.{piece_more, piece_all, mapped_at}
 use Rattle.fp_contest_in.proofs.PrintedNets.{conn_at_place, net_count}
 use Rattle.fp_contest_in.proofs.print_nets.write_conns.Goals as goal

@@ -1,6 +1,6 @@
 use Rattle.std.proofs.Common.{◌<◌, ◌∙◌, slice_get, length, subst, sym, ap}
 use Rattle.fp_tech.specs.Book.{Book}
-use Rattle.fp_contest_in.proofs.Adding.{as_piece}
+use Rattle.fp_text.specs.WritingLaws.{as_piece}
 use Rattle.fp_contest_in.proofs.PrintedNets.{lib_of_named, inst_written}
 use Rattle.fp_contest_in.proofs.print_nets.write_inst.Goals as goal
 

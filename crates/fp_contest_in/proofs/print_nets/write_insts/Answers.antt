@@ -2,7 +2,7 @@ use Rattle.std.specs.Prelude.{codes}
 use Rattle.std.proofs.Common.{◌∙◌, ◌∷◌, ◌++◌, [], map, length, sym, ap, List, ℕ, arith}
 use Rattle.std.proofs.lemmas.List.{append-nil, length-map}
 use Rattle.fp_contest_in.specs.PrintedText.{line, numbers, inst_line, inst_said}
-use Rattle.fp_contest_in.proofs.Adding.{in_turn, as_piece}
+use Rattle.fp_text.specs.WritingLaws.{in_turn, as_piece}
 use Rattle.fp_contest_in.proofs.Pieces.{piece_more, piece_all, mapped_at, element, behind}
 use Rattle.fp_contest_in.proofs.print_nets.write_insts.Goals as goal
 

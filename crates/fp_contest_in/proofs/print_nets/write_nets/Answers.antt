@@ -3,7 +3,7 @@ use Rattle.std.proofs.Common.{◌∙◌, ◌∷◌, ◌++◌, [], length, sym, a
 use Rattle.std.proofs.lemmas.List.{append-nil}
 use Rattle.fp_netlist.specs.Netlist.{cell_names}
 use Rattle.fp_contest_in.specs.PrintedText.{line, numbers, net_lines, net_said, nets_said}
-use Rattle.fp_contest_in.proofs.Adding.{in_turn, as_piece}
+use Rattle.fp_text.specs.WritingLaws.{in_turn, as_piece}
 use Rattle.fp_contest_in.proofs.Pieces.{piece_more, piece_all, element, behind}
 use Rattle.fp_contest_in.proofs.PrintedNets.{length-nets_said, net_first}
 use Rattle.fp_contest_in.proofs.print_nets.write_nets.Goals as goal

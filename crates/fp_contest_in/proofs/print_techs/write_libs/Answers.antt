@@ -1,7 +1,7 @@
 use Rattle.std.proofs.Common.{ap, is_some}
 use Rattle.fp_base.specs.declared.ids.LibId.{LibId}
 use Rattle.fp_tech.specs.Book.{libs_of}
-use Rattle.fp_contest_in.proofs.Adding.{in_turn, as_piece}
+use Rattle.fp_text.specs.WritingLaws.{in_turn, as_piece}
 use Rattle.fp_contest_in.proofs.PrintedTechs.{lib_at_place, lib_more}
 use Rattle.fp_contest_in.proofs.print_techs.write_libs.Goals as goal
 

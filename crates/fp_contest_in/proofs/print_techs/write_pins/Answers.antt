@@ -1,5 +1,5 @@
 use Rattle.fp_tech.specs.Book.{pins_in}
-use Rattle.fp_contest_in.proofs.Adding.{in_turn, as_piece}
+use Rattle.fp_text.specs.WritingLaws.{in_turn, as_piece}
 use Rattle.fp_contest_in.proofs.PrintedTechs.{pin_more}
 use Rattle.fp_contest_in.proofs.print_techs.write_pins.Goals as goal
 

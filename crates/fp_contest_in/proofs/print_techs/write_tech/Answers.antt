@@ -1,5 +1,5 @@
 use Rattle.std.proofs.Common.{◌≤◌, length, arith}
-use Rattle.fp_contest_in.proofs.Adding.{in_turn, as_piece}
+use Rattle.fp_text.specs.WritingLaws.{in_turn, as_piece}
 use Rattle.fp_contest_in.proofs.PrintedTechs.{few_libs, tech_written}
 use Rattle.fp_contest_in.proofs.print_techs.write_tech.Goals as goal
 

@@ -2,7 +2,7 @@ use Rattle.std.proofs.Common.{map, subst, sym, ap, ◌∙◌}
 use Rattle.fp_tech.specs.Book.{Book, tech_names}
 use Rattle.fp_tech.specs.Plan.{Plan, IsPlan}
 use Rattle.fp_contest_in.specs.PrintedText.{techs_lines, sections_lines, tech_said, setup_said, nets_lines, nets_said}
-use Rattle.fp_contest_in.proofs.Adding.{in_turn, as_piece, written_on_ok}
+use Rattle.fp_text.specs.WritingLaws.{in_turn, as_piece, written_on_ok}
 use Rattle.fp_contest_in.proofs.PrintedSections.{tech_names_said, inst_names_said}
 use Rattle.fp_contest_in.proofs.ReadsBack.{reads_back}
 use Rattle.fp_contest_in.proofs.printing.print_problem.Goals as goal

@@ -1,6 +1,6 @@
 use Rattle.std.proofs.Common.{◌∙◌}
 use Rattle.fp_contest_in.specs.PrintedText.{line}
-use Rattle.fp_contest_in.proofs.Adding.{as_piece}
+use Rattle.fp_text.specs.WritingLaws.{as_piece}
 use Rattle.fp_contest_in.proofs.PrintedSections.{die_is, rows_fields}
 use Rattle.fp_contest_in.proofs.printing.write_rows.Goals as goal
 

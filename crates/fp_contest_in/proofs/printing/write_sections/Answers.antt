@@ -1,6 +1,6 @@
 use Rattle.fp_tech.specs.Book.{tech_names}
 use Rattle.fp_contest_in.specs.PrintedText.{setup_said}
-use Rattle.fp_contest_in.proofs.Adding.{in_turn, as_piece}
+use Rattle.fp_text.specs.WritingLaws.{in_turn, as_piece}
 use Rattle.fp_contest_in.proofs.PrintedSections.{terminal_is}
 use Rattle.fp_contest_in.proofs.printing.write_sections.Goals as goal
 

@@ -1,5 +1,5 @@
 use Rattle.std.proofs.Common.{ap}
-use Rattle.fp_contest_in.proofs.Adding.{in_turn, as_piece}
+use Rattle.fp_text.specs.WritingLaws.{in_turn, as_piece}
 use Rattle.fp_contest_in.proofs.PrintedSections.{terminal_lines}
 use Rattle.fp_contest_in.proofs.printing.write_terminal.Goals as goal
 

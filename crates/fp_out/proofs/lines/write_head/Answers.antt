@@ -1,5 +1,5 @@
 use Rattle.std.proofs.Common.{ap, decimal}
-use Rattle.fp_out.proofs.Adding.{in_turn, as_piece}
+use Rattle.fp_text.specs.WritingLaws.{in_turn, as_piece}
 use Rattle.fp_out.proofs.lines.write_head.Goals as goal
 
 pub returns-clause-adds : goal.returns-clause-adds

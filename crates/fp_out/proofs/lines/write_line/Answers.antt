@@ -1,7 +1,7 @@
 use Rattle.std.proofs.Common.{FitsSigned, w64, ap, rules}
 use Rattle.std.proofs.lemmas.Int.{to_z-of_z}
 use Rattle.fp_out.specs.OutText.{coordinate_text}
-use Rattle.fp_out.proofs.Adding.{in_turn, as_piece}
+use Rattle.fp_text.specs.WritingLaws.{in_turn, as_piece}
 use Rattle.fp_out.proofs.lines.write_line.Goals as goal
 
 pub returns-clause-adds : goal.returns-clause-adds

@@ -1,9 +1,8 @@
 use Rattle.std.proofs.Common.{FitsSigned, w64, codes, not, sym, ap, ◌∙◌, arith, rules}
 use Rattle.std.proofs.lemmas.Int.{to_z-of_z}
 use Rattle.fp_text.specs.Writing.{told}
-use Rattle.fp_text.specs.WritingLaws.{adds_nothing}
+use Rattle.fp_text.specs.WritingLaws.{adds_nothing, in_turn, as_piece}
 use Rattle.fp_out.specs.OutText.{line_text, insts_text}
-use Rattle.fp_out.proofs.Adding.{in_turn, as_piece}
 use Rattle.fp_out.proofs.Lists.{lines_below, lines_none, lines_all, is_other_die}
 use Rattle.fp_out.proofs.Texts.{insts_more, insts_same}
 use Rattle.fp_out.proofs.output.write_cells.Goals as goal

@@ -1,8 +1,7 @@
 use Rattle.std.proofs.Common.{Some, sym, ap, ◌∙◌, arith}
 use Rattle.fp_text.specs.Writing.{told}
-use Rattle.fp_text.specs.WritingLaws.{adds_nothing}
+use Rattle.fp_text.specs.WritingLaws.{adds_nothing, in_turn, as_piece}
 use Rattle.fp_out.specs.OutText.{terminals_text}
-use Rattle.fp_out.proofs.Adding.{in_turn, as_piece}
 use Rattle.fp_out.proofs.Lists.{terminals_none, terminals_all}
 use Rattle.fp_out.proofs.Texts.{centres_more, centres_same}
 use Rattle.fp_out.proofs.output.write_centres.Goals as goal

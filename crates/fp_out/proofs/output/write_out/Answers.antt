@@ -1,4 +1,4 @@
-use Rattle.fp_out.proofs.Adding.{in_turn, written_on_ok}
+use Rattle.fp_text.specs.WritingLaws.{in_turn, written_on_ok}
 use Rattle.fp_out.proofs.output.write_out.Goals as goal
 
 pub returns-clause-written : goal.returns-clause-written

@@ -36,7 +36,7 @@ pub enum SeedFault {
 
 impl From<NoMemory> for SeedFault {
     ghost use Rattle.std.specs.Prelude.{◌≡◌};
-    ghost use Rattle.fp_seed.specs.declared.two_fits.SeedFault.TheVariants.{Memory};
+    ghost use Rattle.fp_seed.specs.declared.seeding.SeedFault.TheVariants.{Memory};
 
     ghost from_gives = { λ _ fault. fault ≡ Memory };
 
