@@ -1,16 +1,14 @@
 -- The pin of a connection, and the pins of a net one after the other.
-use Rattle.std.proofs.Common.{◌≡◌, ℕ, ◌+◌, ◌<◌, ◌≤◌, ◌^◌, Bool, true, false, cond, List, [], ◌∷◌, ◌++◌, if◌then◌else◌, is_some, map, filter, drop, length, get_or, Option, Some, None, option_map, slice_get, pos, ◌+ℤ◌, ◌≤ℤ◌, IfSome, refl, sym, ap, subst, ◌∙◌, arith}
+use Rattle.std.proofs.Common.{◌≡◌, ℕ, ◌<◌, ◌^◌, Bool, true, false, cond, List, [], ◌∷◌, ◌++◌, if◌then◌else◌, is_some, map, filter, length, Option, Some, None, option_map, slice_get, pos, ◌+ℤ◌, ◌≤ℤ◌, IfSome, refl, sym, ap, subst, ◌∙◌, arith}
 use Rattle.std.proofs.lemmas.Int.{ints}
-use Rattle.std.proofs.lemmas.List.{drop_more, drop_all, length-map, append-nil}
+use Rattle.std.proofs.lemmas.List.{append-nil}
 use Rattle.std.proofs.lemmas.Option.{same_Some, slice_get_within, get_or_from_slice_get}
 use Rattle.std.proofs.Math.ListN.{get_or-map}
 use Rattle.fp_base.specs.declared.ids.Die.{Die}
 use Rattle.fp_base.specs.declared.ids.Die.TheVariants.{Top, Bottom}
-use Rattle.fp_base.specs.declared.ids.ConnId.{ConnId}
 use Rattle.fp_base.specs.declared.ids.Point.{Point}
 use Rattle.fp_netlist.specs.declared.problem.Conn.{Conn}
 use Rattle.fp_netlist.specs.Netlist.{Netlist, conns_of_net}
-use Rattle.fp_netlist.specs.NetlistLaws.{net_conns_within}
 use Rattle.fp_netlist.specs.Points.{offset, moved}
 use Rattle.fp_place.specs.declared.placement.Spot.{Spot}
 use Rattle.fp_place.specs.Places.{Place, place_at, nowhere, dies_of, same_die}
@@ -96,28 +94,6 @@ walk_on p places net k left reaches so_far = record {
 pub walk_ends : (p : Netlist) (places : List Place) (net : ℕ) (reaches : Reaches) → Walked p places net [] reaches → reaches ≡ pins_reached p places net
 unfolding pins_of reach_after
 walk_ends p places net reaches so_far = λ i. record { top = so_far.all Top i; bottom = so_far.all Bottom i }
-
--- the connection at an index of a net's list
-pub conn_next : (p : Netlist) (net i : ℕ) (items : List ConnId) (d : ConnId) → items ≡ map (λ conn. record { 0 = conn }) (conns_of_net p net) → i < length items
-    → drop i (conns_of_net p net) ≡ (get_or items i d).0 ∷ drop (i + 1) (conns_of_net p net)
-conn_next p net i items d is below =
-    let many : length items ≡ length (conns_of_net p net) = ap length is ∙ length-map (conns_of_net p net) (λ conn. record { 0 = conn }) in
-    let within : i < length (conns_of_net p net) = omega arith in
-    let first : (get_or items i d).0 ≡ get_or (conns_of_net p net) i d.0 = ap (λ (l : List ConnId). (get_or l i d).0) is ∙ ap (λ (c : ConnId). c.0) (get_or-map (λ (conn : ℕ). record { 0 = conn }) (conns_of_net p net) i d.0) in
-    drop_more (conns_of_net p net) i d.0 within ∙ ap (λ k. k ∷ drop (i + 1) (conns_of_net p net)) (sym first)
-
-pub conn_within : (p : Netlist) (net i : ℕ) (items : List ConnId) (d : ConnId) → items ≡ map (λ conn. record { 0 = conn }) (conns_of_net p net) → i < length items
-    → (get_or items i d).0 < length p.conns
-conn_within p net i items d is below =
-    let many : length items ≡ length (conns_of_net p net) = ap length is ∙ length-map (conns_of_net p net) (λ conn. record { 0 = conn }) in
-    let within : i < length (conns_of_net p net) = omega arith in
-    let first : (get_or items i d).0 ≡ get_or (conns_of_net p net) i d.0 = ap (λ (l : List ConnId). (get_or l i d).0) is ∙ ap (λ (c : ConnId). c.0) (get_or-map (λ (conn : ℕ). record { 0 = conn }) (conns_of_net p net) i d.0) in
-    subst (λ k. k < length p.conns) (sym first) (net_conns_within p net i d.0 within)
-
-pub conns_end : (p : Netlist) (net i : ℕ) (items : List ConnId) → items ≡ map (λ conn. record { 0 = conn }) (conns_of_net p net) → length items ≤ i → drop i (conns_of_net p net) ≡ []
-conns_end p net i items is past =
-    let many : length items ≡ length (conns_of_net p net) = ap length is ∙ length-map (conns_of_net p net) (λ conn. record { 0 = conn }) in
-    drop_all i (conns_of_net p net) (omega arith)
 
 -- a net's length from its reaches, where exactly the cut nets have a terminal
 pub length_is : (p : Netlist) (placed : Placed) (net : ℕ) (terminal : Option Point) (reaches : Reaches) → slice_get placed.terminals net ≡ Some terminal

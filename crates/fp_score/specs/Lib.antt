@@ -1,3 +1,4 @@
+pub mod Ends
 pub mod FirstFit
 pub mod FirstFitLaws
 pub mod Pick
@@ -5,4 +6,6 @@ pub mod Reaches
 pub mod Score
 pub mod ScoreLaws
 pub mod Target
+pub mod TargetLaws
 pub mod Terminals
+pub mod Walks

@@ -14,13 +14,13 @@ use fp_place::Placement;
 
 /// A pin: the die of its cell, and where it is there.
 #[derive(Clone, Copy)]
-struct PinPlace {
-    die: Die,
-    point: Point,
+pub(crate) struct PinPlace {
+    pub die: Die,
+    pub point: Point,
 }
 
 /// The pin of a connection, from 0 to 2^31 on each axis.
-fn pin(problem: &Problem, placement: &Placement, conn: ConnId) -> PinPlace
+pub(crate) fn pin(problem: &Problem, placement: &Placement, conn: ConnId) -> PinPlace
     requires conn { conn.0 < length problem.now.conns }
     requires of_problem { IsPlacementOf problem.now placement.now }
     ensures die { result.die ≡ die_of problem.now (places_of placement.now) conn.0 }

@@ -1,9 +1,18 @@
 //! What no clause says: that lengths are those that are meant.
 
+ghost use Rattle.std.specs.Prelude.{◌≡◌, ◌≤◌, IfOk, length};
+ghost use Rattle.fp_place.specs.Placed.{IsPlacementOf};
 ghost use Rattle.fp_score.specs.Reaches.{AreNear};
 
 use crate::reaches::Reaches;
-use fp_base::{Die, Point};
+use crate::{Axis, own_length};
+use fp_base::{CellId, Die, LibId, NetId, NoMemory, Point, TechId};
+use fp_netlist::{Problem, ProblemBuilder};
+use fp_place::{Drawn, DrawnCell, DrawnTerminal, Judged, Placement, verdict};
+use fp_tech::{BuildFault, DieSpec, Dies, Frame, TechBook, TermSpec};
+use std::alloc::Global;
+use std::process::Abort;
+use std::test::Fail;
 
 /// Two pins on the top die and one on the bottom die.
 fn three_pins() -> Reaches
@@ -21,4 +30,154 @@ fn half_perimeters_by_hand(rt: HostRuntime) {
     assert_eq!(rt; three_pins().length(), 3 + 4);
     let terminal = Some(Point { x: 10, y: 5 });
     assert_eq!(rt; three_pins().with_terminal(terminal).length(), 9 + 4 + 5);
+}
+
+/// A library cell of that width with its pin at that place.
+fn add_lib(
+    rt: &impl Abort,
+    book: &mut TechBook,
+    tech: TechId,
+    width: u32,
+    pin: u32,
+) -> Result<LibId, BuildFault> {
+    assert!(rt; tech.0 < book.techs());
+    assert!(rt; width > 0 && width < 10);
+    assert!(rt; pin < 10);
+    let lib = book.add_lib(tech, b"MC1", width, 10)?;
+    assert!(rt; tech.0 < book.techs());
+    assert!(rt; book.has(tech, lib));
+    book.add_pin(tech, lib, b"P1", pin, pin + 1)?;
+    Ok(lib)
+}
+
+/// Two technologies with a library cell, whose pin is at (1, 2) in the first and at (2, 3) in the second.
+fn two_technologies(rt: &impl Abort, alloc: Global) -> Result<(TechBook, LibId), BuildFault> {
+    let mut book = TechBook::new(alloc);
+    let first = book.add_tech(b"TA")?;
+    let second = book.add_tech(b"TB")?;
+    let lib = add_lib(rt, &mut book, first, 4, 1)?;
+    add_lib(rt, &mut book, second, 5, 2)?;
+    Ok((book, lib))
+}
+
+/// Two rows of 20 by 10 on each die.
+fn two_dies(rt: &impl Abort, alloc: Global, book: TechBook) -> Result<Dies, Fail> {
+    let frame = Frame {
+        llx: 0,
+        lly: 0,
+        urx: 20,
+        ury: 20,
+    };
+    let terminal = TermSpec {
+        size_x: 2,
+        size_y: 2,
+        spacing: 1,
+    };
+    assert!(rt; book.techs() == 2);
+    let top = DieSpec {
+        percent: 100,
+        tech: TechId(0),
+        start_x: 0,
+        start_y: 0,
+        length: 20,
+        height: 10,
+        repeat: 2,
+    };
+    let bottom = DieSpec {
+        tech: TechId(1),
+        ..top
+    };
+    Ok(Dies::new(alloc, book, frame, top, bottom, terminal)?)
+}
+
+/// Two cells, a net that joins them, and one that joins the first cell to itself.
+fn fill(builder: &mut ProblemBuilder, lib: LibId) -> Result<(), BuildFault> {
+    let first = builder.add_inst(b"C1", lib)?;
+    let second = builder.add_inst(b"C2", lib)?;
+    let net = builder.add_net(b"N1")?;
+    let own = builder.add_net(b"N2")?;
+    builder.connect(net, first, b"P1")?;
+    builder.connect(net, second, b"P1")?;
+    builder.connect(own, first, b"P1")?;
+    builder.connect(own, first, b"P1")?;
+    Ok(())
+}
+
+fn two_cells(rt: &impl Abort, alloc: Global) -> Result<Problem, Fail> {
+    let (book, lib) = two_technologies(rt, alloc)?;
+    let dies = two_dies(rt, alloc, book)?;
+    let mut builder = ProblemBuilder::new(alloc, dies);
+    fill(&mut builder, lib)?;
+    Ok(builder.finish()?)
+}
+
+/// The first cell on the top die at the corner, and the second one on the bottom die at x 6.
+fn drawn(alloc: Global) -> Result<Drawn, NoMemory> {
+    let mut drawn = Drawn::new(alloc);
+    let first = CellId(0);
+    let second = CellId(1);
+    drawn.push_cell(
+        Die::Top,
+        DrawnCell {
+            cell: first,
+            x: 0,
+            y: 0,
+        },
+    )?;
+    drawn.push_cell(
+        Die::Bottom,
+        DrawnCell {
+            cell: second,
+            x: 6,
+            y: 0,
+        },
+    )?;
+    drawn.push_terminal(DrawnTerminal {
+        net: NetId(0),
+        x: 4,
+        y: 4,
+    })?;
+    Ok(drawn)
+}
+
+fn placed(rt: &impl Abort, alloc: Global, problem: &Problem) -> Result<Placement, Fail>
+    ensures { IfOk result (IsPlacementOf problem.now) }
+{
+    let drawn = drawn(alloc)?;
+    match verdict(alloc, problem, &drawn)? {
+        Judged::Legal(placement) => Ok(placement),
+        Judged::Breaks { .. } => panic!(rt; "it is legal"),
+    }
+}
+
+#[test]
+fn own_lengths_by_hand(rt: HostRuntime) -> Result<(), Fail> {
+    let problem = two_cells(&rt, rt.alloc())?;
+    let placement = placed(&rt, rt.alloc(), &problem)?;
+    assert!(&rt; problem.cells() == 2);
+    expect_lengths(&rt, &problem, &placement);
+    Ok(())
+}
+
+/// The first cell's own lengths. Its neighbour's pin is at (8, 3).
+fn expect_lengths(rt: &impl Abort, problem: &Problem, placement: &Placement)
+    requires cells { length problem.now.cells ≡ 2 }
+    requires of_problem { IsPlacementOf problem.now placement.now }
+{
+    let first = CellId(0);
+    for (die, axis, at, length) in [
+        (Die::Top, Axis::X, 0, 7),
+        (Die::Bottom, Axis::X, 0, 6),
+        (Die::Bottom, Axis::X, -4, 10),
+        (Die::Bottom, Axis::X, 10, 4),
+        (Die::Top, Axis::Y, 0, 1),
+        (Die::Bottom, Axis::Y, 0, 0),
+    ] {
+        assert!(rt; at >= -10);
+        assert!(rt; at <= 10);
+        assert_eq!(rt;
+            own_length(problem, placement, first, die, axis, at),
+            length
+        );
+    }
 }
