@@ -8,7 +8,7 @@ mod reaches;
 mod stop;
 
 pub use lengths::{net_length, net_reaches, score};
-pub use own::{Axis, offset_along, own_length, pin_along};
+pub use own::{Axis, Ends, offset_along, own_length, pin_along};
 pub use reach::Reach;
 pub use reaches::Reaches;
 pub use stop::Stop;

@@ -53,9 +53,9 @@ pub fn offset_along(problem: &Problem, conn: ConnId, die: Die, axis: Axis) -> i6
 
 /// The least and the greatest of some places on an axis.
 #[derive(Clone, Copy)]
-struct Ends {
-    low: i64,
-    high: i64,
+pub struct Ends {
+    pub low: i64,
+    pub high: i64,
 }
 
 // With one place more.
