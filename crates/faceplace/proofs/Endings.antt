@@ -1,7 +1,7 @@
 -- How each path of the program ends, and that what is due has one status.
 use Rattle.std.proofs.Common.{◌≡◌, ◌⊎◌, ℕ, ◌≤◌, true, false, List, [], ◌∷◌, Option, Some, None, Result, Ok, Err, OnOk, OnErr, is_err, refl, sym, ap, subst, ◌∙◌, arith, inl, inr}
 use Rattle.fp_base.specs.Faults.{Rose}
-use Rattle.fp_base.specs.Files.{Files, bytes_of, sets_file, OthersStay}
+use Rattle.fp_base.specs.Files.{Files, bytes_of, sets_file, followed_by, FrontFollows, OthersStay}
 use Rattle.fp_base.specs.FilesLaws.{rose_since}
 use Rattle.fp_netlist.specs.Netlist.{Netlist}
 use Rattle.faceplace.specs.declared.status.Status.{Status}
@@ -14,7 +14,7 @@ use Rattle.fp_place.specs.Legal.{IsLegal}
 use Rattle.faceplace.specs.Request.{Asked, Seed, Score}
 use Rattle.faceplace.specs.Drawn.{HasOutputCause, HoldsDrawing, HoldsOnlyDrawing}
 use Rattle.faceplace.specs.Report.{Cause, IsMissing, IsLong, IsWrong, HasCause, HoldsProblem, HoldsOnly, words_report, score_report, broken_report}
-use Rattle.faceplace.specs.Outcome.{Writing, Outcome, told, InputSays, OutputSays, IsDue, IsDueAlone}
+use Rattle.faceplace.specs.Outcome.{Writing, Outcome, with_writings, told, InputSays, OutputSays, IsDue, IsDueAlone}
 use Rattle.faceplace.specs.Judging.{Reports}
 use Rattle.faceplace.specs.Status.{code_of, Tells, Refuses}
 use Rattle.faceplace.specs.Run.{Outside, EndsAs}
@@ -63,42 +63,80 @@ pub wanting : (asked : Option Asked) (old new : Outside) → new.held ≡ old.he
 wanting asked old new same quiet steady = inr (inl (record { status_is = refl; files = same; nothing = (quiet, steady) }))
 
 -- the file that is due was not written
-pub unwritten : {T E : Type 0} (result : Result T E) (asked : Option Asked) (status : ℕ) (report : List ℕ) (writing : Writing) (old mid new : Outside) → is_err result ≡ true
+pub unwritten : {T E : Type 0} (result : Result T E) (asked : Option Asked) (status : ℕ) (report : List ℕ) (writing : Writing) (old new : Outside) → is_err result ≡ true
     → IsDueAlone asked old.held (record { status = status; report = report; writings = writing ∷ [] })
-    → mid.held ≡ old.held → old.folder_faults ≤ mid.folder_faults → OthersStay writing.name mid.held new.held → OnErr result (Rose mid.folder_faults new.folder_faults)
+    → OthersStay writing.name old.held new.held → OnErr result (Rose old.folder_faults new.folder_faults)
     → new.written ≡ old.written → new.sink_faults ≡ old.sink_faults → EndsAs asked 6 old new
-unwritten (Ok x) asked status report writing old mid new err due same le others rose quiet steady = absurd cc
-unwritten (Err e) asked status report writing old mid new err due same le others rose quiet steady = inr (inr (inr (inl (record {
+unwritten (Ok x) asked status report writing old new err due others rose quiet steady = absurd cc
+unwritten (Err e) asked status report writing old new err due others rose quiet steady = inr (inr (inr (inl (record {
   outcome = record { status = status; report = report; writings = writing ∷ [] };
   due = due;
   writing = writing;
   one = refl;
   status_is = refl;
-  rose = rose_since old.folder_faults mid.folder_faults new.folder_faults le rose;
-  files = subst (λ (held : Option Files). OthersStay writing.name held new.held) same others;
+  rose = rose;
+  files = others;
   nothing = (quiet, steady);
 }))))
 
 -- it was written, and the report told
-pub written : {T E : Type 0} (result : Result T E) (asked : Option Asked) (report : List ℕ) (writing : Writing) (status : Status) (old mid new : Outside) → is_err result ≡ false
+pub written : {T E : Type 0} (result : Result T E) (asked : Option Asked) (report : List ℕ) (writing : Writing) (status : Status) (old new : Outside) → is_err result ≡ false
     → IsDueAlone asked old.held (record { status = 0; report = report; writings = writing ∷ [] })
-    → mid.held ≡ old.held → OnOk result (new.held ≡ sets_file writing.name (λ _. writing.text) mid.held)
+    → OnOk result (new.held ≡ sets_file writing.name (λ _. writing.text) old.held)
     → Tells report statuses.Done status old.written new.written old.sink_faults new.sink_faults → EndsAs asked (code_of status) old new
-written (Err e) asked report writing status old mid new ok due same set tells = absurd cc
-written (Ok x) asked report writing status old mid new ok due same set (inl (is, put)) = inl (record {
+written (Err e) asked report writing status old new ok due set tells = absurd cc
+written (Ok x) asked report writing status old new ok due set (inl (is, put)) = inl (record {
   outcome = record { status = 0; report = report; writings = writing ∷ [] };
   due = due;
   status_is = ap code_of is;
-  files = set ∙ ap (sets_file writing.name (λ _. writing.text)) same;
+  files = set;
   reports = put;
 })
-written (Ok x) asked report writing status old mid new ok due same set (inr (is, rose, front)) = inr (inr (inr (inr (record {
+written (Ok x) asked report writing status old new ok due set (inr (is, rose, front)) = inr (inr (inr (inr (record {
   outcome = record { status = 0; report = report; writings = writing ∷ [] };
   due = due;
   status_is = ap code_of is;
-  files = set ∙ ap (sets_file writing.name (λ _. writing.text)) same;
+  files = set;
   rose = rose;
   front = front;
+}))))
+
+-- a run that reads, and ends so from there, ends so from where it began
+pub since_read : (asked : Option Asked) (status : ℕ) (old mid new : Outside) → mid.held ≡ old.held → old.folder_faults ≤ mid.folder_faults
+    → mid.written ≡ old.written → mid.sink_faults ≡ old.sink_faults → EndsAs asked status mid new → EndsAs asked status old new
+since_read asked status old mid new same later quiet steady (inl done) = inl (record {
+  outcome = done.outcome;
+  due = subst (λ (held : Option Files). IsDueAlone asked held done.outcome) same done.due;
+  status_is = done.status_is;
+  files = done.files ∙ ap (with_writings done.outcome.writings) same;
+  reports = done.reports ∙ ap (followed_by done.outcome.report) quiet;
+})
+since_read asked status old mid new same later quiet steady (inr (inl none)) =
+    inr (inl (record { status_is = none.status_is; files = none.files ∙ same; nothing = (none.nothing.0 ∙ quiet, none.nothing.1 ∙ steady) }))
+since_read asked status old mid new same later quiet steady (inr (inr (inl fails))) = inr (inr (inl (record {
+  request = fails.request;
+  status_is = fails.status_is;
+  rose = rose_since old.folder_faults mid.folder_faults new.folder_faults later fails.rose;
+  files = fails.files ∙ same;
+  nothing = (fails.nothing.0 ∙ quiet, fails.nothing.1 ∙ steady);
+})))
+since_read asked status old mid new same later quiet steady (inr (inr (inr (inl fails)))) = inr (inr (inr (inl (record {
+  outcome = fails.outcome;
+  due = subst (λ (held : Option Files). IsDueAlone asked held fails.outcome) same fails.due;
+  writing = fails.writing;
+  one = fails.one;
+  status_is = fails.status_is;
+  rose = rose_since old.folder_faults mid.folder_faults new.folder_faults later fails.rose;
+  files = subst (λ (held : Option Files). OthersStay fails.writing.name held new.held) same fails.files;
+  nothing = (fails.nothing.0 ∙ quiet, fails.nothing.1 ∙ steady);
+}))))
+since_read asked status old mid new same later quiet steady (inr (inr (inr (inr fails)))) = inr (inr (inr (inr (record {
+  outcome = fails.outcome;
+  due = subst (λ (held : Option Files). IsDueAlone asked held fails.outcome) same fails.due;
+  status_is = fails.status_is;
+  files = fails.files ∙ ap (with_writings fails.outcome.writings) same;
+  rose = subst (λ (faults : ℕ). Rose faults new.sink_faults) steady fails.rose;
+  front = subst (λ (put : Option (List ℕ)). FrontFollows fails.outcome.report put new.written) quiet fails.front;
 }))))
 
 -- what reads has no cause of a refusal

@@ -1,9 +1,10 @@
 -- How a run ends: what the files and the output were before the call and are after it.
-use Rattle.std.specs.Prelude.{◌≡◌, ◌⊎◌, ℕ, List, [], ◌∷◌, Option, IsSome}
+use Rattle.std.specs.Prelude.{◌≡◌, ◌⊎◌, ℕ, true, List, [], ◌∷◌, Option, Some, IsSome}
 use Rattle.fp_base.specs.Faults.{Rose}
 use Rattle.fp_base.specs.Files.{Files, OthersStay, followed_by, FrontFollows}
+use Rattle.fp_netlist.specs.Netlist.{Netlist}
 use Rattle.faceplace.specs.Request.{Asked}
-use Rattle.faceplace.specs.Outcome.{Writing, Outcome, with_writings, IsDueAlone}
+use Rattle.faceplace.specs.Outcome.{Writing, Outcome, with_writings, InputSays, IsDueAlone}
 
 -- the outside at one moment, as far as it is told: the held files, the bytes written so far, and the counts of faults
 pub record Outside : Type 0 where
@@ -68,3 +69,7 @@ pub record FailsAtReport (asked : Option Asked) (status : ℕ) (old new : Outsid
 abbrev pub EndsAs : Option Asked → ℕ → Outside → Outside → Type 0
 EndsAs asked status old new = IsDone asked status old new ⊎ IsWanting status old new
     ⊎ FailsAtReading asked status old new ⊎ FailsAtWriting asked status old new ⊎ FailsAtReport asked status old new
+
+-- a run ends with this status from where it has read the problem of its input file, whatever that file's name
+abbrev pub EndsForProblem : Netlist → (List ℕ → Asked) → ℕ → Outside → Outside → Type 0
+EndsForProblem p asked status old new = (input : List ℕ) → InputSays true input old.held p → EndsAs (Some (asked input)) status old new

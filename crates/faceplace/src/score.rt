@@ -5,7 +5,7 @@ ghost use Rattle.fp_base.specs.Faults.{Rose};
 ghost use Rattle.faceplace.specs.Request.{Score};
 ghost use Rattle.faceplace.specs.Judging.{Reports};
 ghost use Rattle.faceplace.specs.Status.{code_of};
-ghost use Rattle.faceplace.specs.Run.{outside, EndsAs};
+ghost use Rattle.faceplace.specs.Run.{outside, EndsAs, EndsForProblem};
 
 use crate::input::{Stop, read_input, read_output};
 use crate::refusal::refuse;
@@ -36,6 +36,26 @@ fn judge<S: Sink>(alloc: Global, problem: &Problem, drawn: &Drawn, out: &mut S) 
     }
 }
 
+/// Judges an output file for a problem, and reports its score.
+fn score_problem<F: Folder, S: Sink>(
+    alloc: Global,
+    problem: &Problem,
+    output: &str,
+    folder: &mut F,
+    out: &mut S,
+) -> Status
+    ensures { EndsForProblem problem.now (λ input. Score input output.now) (code_of result)
+        (outside (F.held folder.old) (S.written out.old) (F.faults folder.old) (S.faults out.old))
+        (outside (F.held folder.new) (S.written out.new) (F.faults folder.new) (S.faults out.new)) }
+{
+    match read_output(alloc, folder, problem, output) {
+        Ok(drawn) => judge(alloc, problem, &drawn, out),
+        Err(Stop::Memory) => Status::NoMemory,
+        Err(Stop::Device) => Status::Device,
+        Err(Stop::Refused(cause)) => refuse(alloc, output, cause, out),
+    }
+}
+
 /// Judges an output file for an input file, and reports its score.
 pub fn run_score<F: Folder, S: Sink>(
     alloc: Global,
@@ -48,17 +68,10 @@ pub fn run_score<F: Folder, S: Sink>(
         (outside (F.held folder.old) (S.written out.old) (F.faults folder.old) (S.faults out.old))
         (outside (F.held folder.new) (S.written out.new) (F.faults folder.new) (S.faults out.new)) }
 {
-    let problem = match read_input(alloc, folder, input) {
-        Ok(problem) => problem,
-        Err(Stop::Memory) => return Status::NoMemory,
-        Err(Stop::Device) => return Status::Device,
-        Err(Stop::Refused(cause)) => return refuse(alloc, input, cause, out),
-    };
-    let drawn = match read_output(alloc, folder, &problem, output) {
-        Ok(drawn) => drawn,
-        Err(Stop::Memory) => return Status::NoMemory,
-        Err(Stop::Device) => return Status::Device,
-        Err(Stop::Refused(cause)) => return refuse(alloc, output, cause, out),
-    };
-    judge(alloc, &problem, &drawn, out)
+    match read_input(alloc, folder, input) {
+        Ok(problem) => score_problem(alloc, &problem, output, folder, out),
+        Err(Stop::Memory) => Status::NoMemory,
+        Err(Stop::Device) => Status::Device,
+        Err(Stop::Refused(cause)) => refuse(alloc, input, cause, out),
+    }
 }

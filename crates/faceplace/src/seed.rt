@@ -1,16 +1,17 @@
 //! The command that seeds an input.
 
-ghost use Rattle.std.specs.Prelude.{◌≡◌, IfOk, Some, string_bytes};
+ghost use Rattle.std.specs.Prelude.{◌≡◌, IfOk, Ok, Some, string_bytes};
 ghost use Rattle.fp_place.specs.Cut.{cut};
 ghost use Rattle.fp_place.specs.Places.{dies_of};
 ghost use Rattle.fp_place.specs.Placed.{places_of, IsPlacementOf};
 ghost use Rattle.fp_score.specs.FirstFitLaws.{IsStopOf};
 ghost use Rattle.fp_score.specs.Terminals.{AreOnCuts};
+ghost use Rattle.fp_seed.specs.Seeded.{SeedGives};
 ghost use Rattle.faceplace.specs.Request.{Seed};
 ghost use Rattle.faceplace.specs.Report.{unfit_report};
 ghost use Rattle.faceplace.specs.Seeding.{IsLineOf};
 ghost use Rattle.faceplace.specs.Status.{code_of, Refuses};
-ghost use Rattle.faceplace.specs.Run.{outside, EndsAs};
+ghost use Rattle.faceplace.specs.Run.{outside, EndsAs, EndsForProblem};
 
 use crate::input::{self, read_input};
 use crate::refusal::refuse;
@@ -70,6 +71,55 @@ fn unfit<S: Sink>(
     }
 }
 
+/// Writes a seed to an output file, and reports it.
+fn write_seed<F: Folder, S: Sink>(
+    alloc: Global,
+    problem: &Problem,
+    seeded: &Seeded,
+    output: &str,
+    folder: &mut F,
+    out: &mut S,
+) -> Status
+    requires seed { SeedGives problem.now (Ok seeded.now) }
+    requires of_problem { IsPlacementOf problem.now seeded.now.placement }
+    requires on_cuts { AreOnCuts problem.now (dies_of (places_of seeded.now.placement)) seeded.now.placement.terminals }
+    ensures { EndsForProblem problem.now (λ input. Seed input output.now) (code_of result)
+        (outside (F.held folder.old) (S.written out.old) (F.faults folder.old) (S.faults out.old))
+        (outside (F.held folder.new) (S.written out.new) (F.faults folder.new) (S.faults out.new)) }
+{
+    let Ok(line) = line_of(alloc, problem, seeded) else {
+        return Status::NoMemory;
+    };
+    if write_out(folder, output, problem, &seeded.placement).is_err() {
+        return Status::Device;
+    }
+    tell(out, line.as_bytes(), Status::Done)
+}
+
+/// Writes the first-fit placement of a problem to an output file, and reports it.
+fn seed_problem<F: Folder, S: Sink>(
+    alloc: Global,
+    problem: &Problem,
+    output: &str,
+    folder: &mut F,
+    out: &mut S,
+) -> Status
+    ensures { EndsForProblem problem.now (λ input. Seed input output.now) (code_of result)
+        (outside (F.held folder.old) (S.written out.old) (F.faults folder.old) (S.faults out.old))
+        (outside (F.held folder.new) (S.written out.new) (F.faults folder.new) (S.faults out.new)) }
+{
+    match seed(alloc, problem) {
+        Ok(seeded) => write_seed(alloc, problem, &seeded, output, folder, out),
+        Err(SeedFault::Memory) => Status::NoMemory,
+        Err(
+            SeedFault::Unfit {
+                top_first,
+                bottom_first,
+            },
+        ) => unfit(alloc, problem, top_first, bottom_first, out),
+    }
+}
+
 /// Writes the first-fit placement of an input file to an output file, and reports it.
 pub fn run_seed<F: Folder, S: Sink>(
     alloc: Global,
@@ -82,27 +132,10 @@ pub fn run_seed<F: Folder, S: Sink>(
         (outside (F.held folder.old) (S.written out.old) (F.faults folder.old) (S.faults out.old))
         (outside (F.held folder.new) (S.written out.new) (F.faults folder.new) (S.faults out.new)) }
 {
-    let problem = match read_input(alloc, folder, input) {
-        Ok(problem) => problem,
-        Err(input::Stop::Memory) => return Status::NoMemory,
-        Err(input::Stop::Device) => return Status::Device,
-        Err(input::Stop::Refused(cause)) => return refuse(alloc, input, cause, out),
-    };
-    let seeded = match seed(alloc, &problem) {
-        Ok(seeded) => seeded,
-        Err(SeedFault::Memory) => return Status::NoMemory,
-        Err(
-            SeedFault::Unfit {
-                top_first,
-                bottom_first,
-            },
-        ) => return unfit(alloc, &problem, top_first, bottom_first, out),
-    };
-    let Ok(line) = line_of(alloc, &problem, &seeded) else {
-        return Status::NoMemory;
-    };
-    if write_out(folder, output, &problem, &seeded.placement).is_err() {
-        return Status::Device;
+    match read_input(alloc, folder, input) {
+        Ok(problem) => seed_problem(alloc, &problem, output, folder, out),
+        Err(input::Stop::Memory) => Status::NoMemory,
+        Err(input::Stop::Device) => Status::Device,
+        Err(input::Stop::Refused(cause)) => refuse(alloc, input, cause, out),
     }
-    tell(out, line.as_bytes(), Status::Done)
 }
