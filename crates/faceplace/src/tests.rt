@@ -3,6 +3,7 @@
 use crate::run;
 use fp_base::{MemFolder, MemSink};
 use std::alloc::{AllocError, Global};
+use std::process::Abort;
 use std::test::Fail;
 
 /// Two cells of one library cell, which the top die's percent keeps apart.
@@ -40,6 +41,33 @@ type Changes = [(&'static str, &'static str); 5];
 const NONE: (&str, &str) = ("", "");
 
 const UNCHANGED: Changes = [NONE, NONE, NONE, NONE, NONE];
+
+/// The small input without nets.
+const NO_NETS: Changes = [
+    ("NumNets 1", "NumNets 0"),
+    ("Net N1 2", ""),
+    ("Pin C1/P1", ""),
+    ("Pin C2/P1", ""),
+    NONE,
+];
+
+/// The small input with room for one terminal, and with both dies' percents as low as its seed allows.
+const ONE_SLOT: Changes = [
+    ("BottomDieMaxUtil 50", "BottomDieMaxUtil 13"),
+    ("TerminalSize 2 2", "TerminalSize 10 10"),
+    ("TerminalSpacing 1", "TerminalSpacing 4"),
+    NONE,
+    NONE,
+];
+
+/// The small input with a pin twice in its net, a net of one pin and one of none.
+const THREE_NETS: Changes = [
+    ("NumNets 1", "NumNets 3"),
+    ("Net N1 2", "Net N1 3\nPin C1/P1"),
+    ("Pin C2/P1", "Pin C2/P1\nNet N2 1\nPin C1/P1\nNet N3 0"),
+    NONE,
+    NONE,
+];
 
 /// The output of the small input.
 const PLACED: &str =
@@ -107,72 +135,55 @@ fn run_words(
     })
 }
 
+/// A seed of a text with its lines changed: it is done, with this report, and the output file is this text.
+fn expect_seed(
+    rt: &impl Abort,
+    alloc: Global,
+    text: &str,
+    changes: &Changes,
+    report: &str,
+    output: &str,
+) -> Result<(), Fail> {
+    let input = with_changes(alloc, text, changes.as_slice())?;
+    let end = run_words(alloc, "seed a o", Some(input.as_str()), None, &[], &[])?;
+    assert_eq!(rt; end.status, 0, "{report}");
+    assert_eq!(rt; end.out.written(), report.as_bytes(), "{report}");
+    assert!(rt; end.folder.file("o") == Some(output.as_bytes()), "{report}");
+    Ok(())
+}
+
 #[test]
-fn seeds_are_written_with_their_scores(rt: HostRuntime) -> Result<(), Fail> {
-    let no_nets = [
-        ("NumNets 1", "NumNets 0"),
-        ("Net N1 2", ""),
-        ("Pin C1/P1", ""),
-        ("Pin C2/P1", ""),
-        NONE,
-    ];
-    let one_slot = [
-        ("BottomDieMaxUtil 50", "BottomDieMaxUtil 13"),
-        ("TerminalSize 2 2", "TerminalSize 10 10"),
-        ("TerminalSpacing 1", "TerminalSpacing 4"),
-        NONE,
-        NONE,
-    ];
-    let three_nets = [
-        ("NumNets 1", "NumNets 3"),
-        ("Net N1 2", "Net N1 3\nPin C1/P1"),
-        ("Pin C2/P1", "Pin C2/P1\nNet N2 1\nPin C1/P1\nNet N3 0"),
-        NONE,
-        NONE,
-    ];
-    for (text, changes, report, output) in [
+fn seeds_of_the_small_input_are_written_with_their_scores(rt: HostRuntime) -> Result<(), Fail> {
+    for (changes, report, output) in [
+        (UNCHANGED, "seed 2 first top cut 1 slots 36\n", PLACED),
         (
-            SMALL,
-            UNCHANGED,
-            "seed 2 first top cut 1 slots 36\n",
-            PLACED,
-        ),
-        (
-            SMALL,
-            no_nets,
+            NO_NETS,
             "seed 0 first top cut 0 slots 36\n",
             "TopDiePlacement 1\nInst C1 0 0\nBottomDiePlacement 1\nInst C2 0 0\nNumTerminals 0\n",
         ),
         (
-            SMALL,
-            one_slot,
+            ONE_SLOT,
             "seed 28 first top cut 1 slots 1\n",
             "TopDiePlacement 1\nInst C1 0 0\nBottomDiePlacement 1\nInst C2 0 0\nNumTerminals 1\nTerminal N1 9 9\n",
         ),
-        (
-            SMALL,
-            three_nets,
-            "seed 2 first top cut 1 slots 36\n",
-            PLACED,
-        ),
+        (THREE_NETS, "seed 2 first top cut 1 slots 36\n", PLACED),
+    ] {
+        expect_seed(&rt, rt.alloc(), SMALL, &changes, report, output)?;
+    }
+    Ok(())
+}
+
+#[test]
+fn seeds_of_other_inputs_are_written_with_their_scores(rt: HostRuntime) -> Result<(), Fail> {
+    for (text, report, output) in [
         (
             HIGH,
-            UNCHANGED,
             "seed 8 first bottom cut 1 slots 36\n",
             "TopDiePlacement 1\nInst C2 0 0\nBottomDiePlacement 1\nInst C1 0 0\nNumTerminals 1\nTerminal N1 2 2\n",
         ),
-        (
-            CONTEST,
-            UNCHANGED,
-            "seed 83 first top cut 2 slots 4\n",
-            CONTEST_PLACED,
-        ),
+        (CONTEST, "seed 83 first top cut 2 slots 4\n", CONTEST_PLACED),
     ] {
-        let input = with_changes(rt.alloc(), text, changes.as_slice())?;
-        let end = run_words(rt.alloc(), "seed a o", Some(input.as_str()), None, &[], &[])?;
-        assert_eq!(rt; end.status, 0, "{report}");
-        assert_eq!(rt; end.out.written(), report.as_bytes(), "{report}");
-        assert!(rt; end.folder.file("o") == Some(output.as_bytes()), "{report}");
+        expect_seed(&rt, rt.alloc(), text, &UNCHANGED, report, output)?;
     }
     Ok(())
 }
@@ -206,22 +217,25 @@ fn tells_why_no_seed_stands(rt: HostRuntime) -> Result<(), Fail> {
     Ok(())
 }
 
+/// A seed of the small input with a line changed: it is refused with this report, and no file is made.
+fn expect_refusal(
+    rt: &impl Abort,
+    alloc: Global,
+    line: &str,
+    text: &str,
+    report: &str,
+) -> Result<(), Fail> {
+    let input = with_changes(alloc, SMALL, &[(line, text)])?;
+    let end = run_words(alloc, "seed a o", Some(input.as_str()), None, &[], &[])?;
+    assert_eq!(rt; end.status, 3, "{text}");
+    assert_eq!(rt; end.out.written(), report.as_bytes(), "{text}");
+    assert!(rt; end.folder.file("o").is_none(), "{text}");
+    Ok(())
+}
+
 #[test]
-fn reports_the_first_fault(rt: HostRuntime) -> Result<(), Fail> {
+fn reports_the_first_fault_of_the_dies(rt: HostRuntime) -> Result<(), Fail> {
     for (line, text, report) in [
-        ("Pin C2/P1", "", "input a 336 ended\n"),
-        ("Pin C2/P1", "Pin C2/P1 x", "input a 346 trailing\n"),
-        ("NumTechnologies 2", "NumTech 2", "input a 0 word\n"),
-        (
-            "NumTechnologies 2",
-            "NumTechnologies 17",
-            "input a 16 limit\n",
-        ),
-        (
-            "NumTechnologies 2",
-            "NumTechnologies 1073741825",
-            "input a 16 number\n",
-        ),
         (
             "DieSize 0 0 20 20",
             "DieSize 0 0 20 0",
@@ -242,130 +256,183 @@ fn reports_the_first_fault(rt: HostRuntime) -> Result<(), Fail> {
             "TopDieRows 0 0 21 10 2",
             "input a 153 rows\n",
         ),
+    ] {
+        expect_refusal(&rt, rt.alloc(), line, text, report)?;
+    }
+    Ok(())
+}
+
+#[test]
+fn reports_the_first_fault_of_words_counts_and_names(rt: HostRuntime) -> Result<(), Fail> {
+    for (line, text, report) in [
+        ("Pin C2/P1", "", "input a 336 ended\n"),
+        ("Pin C2/P1", "Pin C2/P1 x", "input a 346 trailing\n"),
+        ("NumTechnologies 2", "NumTech 2", "input a 0 word\n"),
+        (
+            "NumTechnologies 2",
+            "NumTechnologies 17",
+            "input a 16 limit\n",
+        ),
+        (
+            "NumTechnologies 2",
+            "NumTechnologies 1073741825",
+            "input a 16 number\n",
+        ),
         ("Inst C1 MC1", "Inst C1 MC2", "input a 291 unknown\n"),
         ("Inst C2 MC1", "Inst C1 MC1", "input a 300 twice\n"),
         ("Pin C1/P1", "Pin C1P1", "input a 330 name\n"),
         ("Pin C1/P1", "Pin C9/P1", "input a 330 unknown\n"),
     ] {
-        let input = with_changes(rt.alloc(), SMALL, &[(line, text)])?;
-        let end = run_words(rt.alloc(), "seed a o", Some(input.as_str()), None, &[], &[])?;
-        assert_eq!(rt; end.status, 3, "{text}");
-        assert_eq!(rt; end.out.written(), report.as_bytes(), "{text}");
-        assert!(rt; end.folder.file("o").is_none(), "{text}");
+        expect_refusal(&rt, rt.alloc(), line, text, report)?;
+    }
+    Ok(())
+}
+
+/// The contest's case with a line changed, and its output with two: how scoring it ends.
+fn score_changed(
+    alloc: Global,
+    input_change: (&str, &str),
+    output_changes: &[(&str, &str)],
+) -> Result<Ended, Fail> {
+    let input = with_changes(alloc, CONTEST, &[input_change])?;
+    let output = with_changes(alloc, CONTEST_PLACED, output_changes)?;
+    let (input, output) = (Some(input.as_str()), Some(output.as_str()));
+    run_words(alloc, "score a o", input, output, &[], &[])
+}
+
+#[test]
+fn percents_hold_up_to_the_last_one_or_are_broken(rt: HostRuntime) -> Result<(), Fail> {
+    for (limit, text, status, report) in [
+        ("", "", 0, "score 83\n"),
+        ("TopDieMaxUtil 40", "TopDieMaxUtil 36", 0, "score 83\n"),
+        ("TopDieMaxUtil 40", "TopDieMaxUtil 35", 5, "broken 5 top\n"),
+        (
+            "BottomDieMaxUtil 90",
+            "BottomDieMaxUtil 44",
+            0,
+            "score 83\n",
+        ),
+        (
+            "BottomDieMaxUtil 90",
+            "BottomDieMaxUtil 43",
+            5,
+            "broken 6 bottom\n",
+        ),
+    ] {
+        let end = score_changed(rt.alloc(), (limit, text), &[])?;
+        assert_eq!(rt; end.status, status, "{report}");
+        assert_eq!(rt; end.out.written(), report.as_bytes(), "{report}");
     }
     Ok(())
 }
 
 #[test]
-fn tells_the_score_or_the_rule_that_is_broken(rt: HostRuntime) -> Result<(), Fail> {
-    for (first, second, percent, status, report) in [
-        (NONE, NONE, "40", 0, "score 83\n"),
-        (NONE, NONE, "36", 0, "score 83\n"),
-        (NONE, NONE, "35", 5, "broken 5 top\n"),
+fn tells_the_rule_that_a_cell_breaks(rt: HostRuntime) -> Result<(), Fail> {
+    let fewer = ("BottomDiePlacement 2", "BottomDiePlacement 1");
+    let higher = ("LibCell MC1 14 15 1", "LibCell MC1 14 16 1");
+    for (input, first, second, report) in [
+        (NONE, ("Inst C6 12 0", ""), fewer, "broken 1 C6\n"),
         (
-            ("Inst C6 12 0", ""),
-            ("BottomDiePlacement 2", "BottomDiePlacement 1"),
-            "40",
-            5,
-            "broken 1 C6\n",
-        ),
-        (
+            NONE,
             ("Inst C4 0 10", "Inst C4 0 11"),
             NONE,
-            "40",
-            5,
             "broken 2 C4\n",
         ),
+        (higher, NONE, NONE, "broken 3 C6\n"),
+        (NONE, ("Inst C2 7 0", "Inst C2 6 0"), NONE, "broken 4 C1\n"),
+    ] {
+        let end = score_changed(rt.alloc(), input, &[first, second])?;
+        assert_eq!(rt; end.status, 5, "{report}");
+        assert_eq!(rt; end.out.written(), report.as_bytes(), "{report}");
+    }
+    Ok(())
+}
+
+#[test]
+fn tells_the_rule_that_a_terminal_breaks(rt: HostRuntime) -> Result<(), Fail> {
+    let more = ("NumTerminals 2", "NumTerminals 3");
+    for (first, second, report) in [
         (
-            ("Inst C2 7 0", "Inst C2 6 0"),
-            NONE,
-            "40",
-            5,
-            "broken 4 C1\n",
-        ),
-        (
-            ("NumTerminals 2", "NumTerminals 3"),
+            more,
             ("Terminal N3 17 7", "Terminal N3 17 7\nTerminal N2 7 17"),
-            "40",
-            5,
             "broken 7 N2\n",
         ),
         (
             ("Terminal N1 7 7", "Terminal N1 6 7"),
             NONE,
-            "40",
-            5,
             "broken 8 N1\n",
         ),
         (
             ("Terminal N3 17 7", "Terminal N3 16 7"),
             NONE,
-            "40",
-            5,
             "broken 9 N1\n",
         ),
     ] {
-        let limit = format!(in rt.alloc(); "TopDieMaxUtil {percent}")?;
-        let input = with_changes(rt.alloc(), CONTEST, &[("TopDieMaxUtil 40", limit.as_str())])?;
-        let output = with_changes(rt.alloc(), CONTEST_PLACED, &[first, second])?;
-        let (input, output) = (Some(input.as_str()), Some(output.as_str()));
-        let end = run_words(rt.alloc(), "score a o", input, output, &[], &[])?;
-        assert_eq!(rt; end.status, status, "{report}");
+        let end = score_changed(rt.alloc(), NONE, &[first, second])?;
+        assert_eq!(rt; end.status, 5, "{report}");
         assert_eq!(rt; end.out.written(), report.as_bytes(), "{report}");
     }
     Ok(())
 }
 
+/// The small input's output with a line changed: scoring it ends with this status and report, and leaves the file as it is.
+fn expect_score(
+    rt: &impl Abort,
+    alloc: Global,
+    line: &str,
+    text: &str,
+    status: u8,
+    report: &str,
+) -> Result<(), Fail> {
+    let changed = with_changes(alloc, PLACED, &[(line, text)])?;
+    let output = Some(changed.as_str());
+    let end = run_words(alloc, "score a o", Some(SMALL), output, &[], &[])?;
+    assert_eq!(rt; end.status, status, "{report}");
+    assert_eq!(rt; end.out.written(), report.as_bytes(), "{report}");
+    assert!(rt;
+        end.folder.file("o") == Some(changed.as_bytes()),
+        "{report}"
+    );
+    Ok(())
+}
+
+#[test]
+fn scores_an_output_of_the_small_input(rt: HostRuntime) -> Result<(), Fail> {
+    expect_score(&rt, rt.alloc(), "", "", 0, "score 2\n")?;
+    expect_score(
+        &rt,
+        rt.alloc(),
+        "Inst C2 0 0",
+        "Inst C1 0 0",
+        5,
+        "broken 1 C1\n",
+    )
+}
+
 #[test]
 fn reports_the_first_fault_of_an_output_file(rt: HostRuntime) -> Result<(), Fail> {
-    for (old, new, status, report) in [
-        ("", "", 0, "score 2\n"),
+    for (line, text, report) in [
         (
             "TopDiePlacement 1",
             "TopDiePlacement 262145",
-            3,
             "input o 16 limit\n",
         ),
         (
             "TopDiePlacement 1",
             "TopDiePlacement 2",
-            3,
             "input o 30 word\n",
         ),
-        ("Inst C1 0 0", "Inst C9 0 0", 3, "input o 23 unknown\n"),
-        (
-            "Inst C1 0 0",
-            "Inst C1 1073741825 0",
-            3,
-            "input o 26 number\n",
-        ),
-        ("Terminal N1 2 2", "", 3, "input o 78 ended\n"),
-        (
-            "Terminal N1 2 2",
-            "Terminal N9 2 2",
-            3,
-            "input o 87 unknown\n",
-        ),
+        ("Inst C1 0 0", "Inst C9 0 0", "input o 23 unknown\n"),
+        ("Inst C1 0 0", "Inst C1 1073741825 0", "input o 26 number\n"),
+        ("Terminal N1 2 2", "", "input o 78 ended\n"),
+        ("Terminal N1 2 2", "Terminal N9 2 2", "input o 87 unknown\n"),
         (
             "Terminal N1 2 2",
             "Terminal N1 2 2\ny",
-            3,
             "input o 94 trailing\n",
         ),
-        ("Inst C2 0 0", "Inst C1 0 0", 5, "broken 1 C1\n"),
     ] {
-        let output = with_changes(rt.alloc(), PLACED, &[(old, new)])?;
-        let end = run_words(
-            rt.alloc(),
-            "score a o",
-            Some(SMALL),
-            Some(output.as_str()),
-            &[],
-            &[],
-        )?;
-        assert_eq!(rt; end.status, status, "{report}");
-        assert_eq!(rt; end.out.written(), report.as_bytes(), "{report}");
-        assert!(rt; end.folder.file("o") == Some(output.as_bytes()), "{report}");
+        expect_score(&rt, rt.alloc(), line, text, 3, report)?;
     }
     Ok(())
 }
@@ -412,14 +479,8 @@ fn a_missing_or_empty_file_is_told_and_none_is_made(rt: HostRuntime) -> Result<(
 
 #[test]
 fn blanks_and_the_order_of_sections_change_nothing(rt: HostRuntime) -> Result<(), Fail> {
-    let end = run_words(rt.alloc(), "seed a o", Some(LOOSE), None, &[], &[])?;
-    assert_eq!(rt; end.status, 0);
-    assert_eq!(rt;
-        end.out.written(),
-        b"seed 2 first top cut 1 slots 36\n".as_slice()
-    );
-    assert!(rt; end.folder.file("o") == Some(PLACED.as_bytes()));
-    Ok(())
+    let report = "seed 2 first top cut 1 slots 36\n";
+    expect_seed(&rt, rt.alloc(), LOOSE, &UNCHANGED, report, PLACED)
 }
 
 #[test]
