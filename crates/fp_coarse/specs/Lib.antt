@@ -1,0 +1,3 @@
+pub mod EndsOfNets
+pub mod Medians
+pub mod Targets
