@@ -43,6 +43,13 @@ pub record AreSmall (ends : NetEnds) : Type 0 where
   pub low : IfSome ends.low (IsWithin (pos 0) (pos (2 ^ 31)))
   pub high : IfSome ends.high (IsWithin (pos 0 -ℤ pos (2 ^ 31)) (pos 0))
 
+-- ends from 0 to 2^31
+pub record AreInRange (ends : Ends) : Type 0 where
+  pub low_least : pos 0 ≤ℤ ends.low
+  pub low_most : ends.low ≤ℤ pos (2 ^ 31)
+  pub high_least : pos 0 ≤ℤ ends.high
+  pub high_most : ends.high ≤ℤ pos (2 ^ 31)
+
 abbrev pub both_ends : Option ℤ → Option ℤ → Option Ends
 both_ends None high = None
 both_ends (Some low) None = None

@@ -3,7 +3,7 @@
 ghost use Rattle.std.specs.Prelude.{◌≡◌, ◌<◌, ◌^◌, ◌≤ℤ◌, ◌-ℤ◌, ℕ, ℤ, All, Some, IfOk, IfSome, length, not, nat_eq, pos};
 ghost use Rattle.fp_place.specs.Placed.{places_of, IsPlacementOf};
 ghost use Rattle.fp_score.specs.Ends.{AreNearEnds};
-ghost use Rattle.fp_coarse.specs.EndsOfNets.{lesser, with_pin, kept_for, ends_without, IsOrdered, IsWithin, AreSmall, IsNetEnds, AreEndsOfNets};
+ghost use Rattle.fp_coarse.specs.EndsOfNets.{lesser, with_pin, kept_for, ends_without, IsOrdered, IsWithin, AreSmall, AreInRange, IsNetEnds, AreEndsOfNets};
 
 use fp_base::{CellId, NetId, NoMemory};
 use fp_netlist::Problem;
@@ -96,7 +96,8 @@ impl NetEnds {
     /// The ends of the pins of other cells than this, None where the net has no other cell.
     pub fn without(self, cell: CellId) -> Option<Ends>
         requires { AreSmall self }
-        ensures { result ≡ ends_without self cell.0 }
+        ensures ends { result ≡ ends_without self cell.0 }
+        ensures range { IfSome result AreInRange }
     {
         match (kept_for(self.low, cell), kept_for(self.high, cell)) {
             (Some(low), Some(high)) => Some(Ends { low, high: -high }),

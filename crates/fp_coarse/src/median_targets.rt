@@ -31,7 +31,8 @@ fn push_breakpoints(
     requires cell { cell.0 < length problem.now.cells }
     requires nets { AreEndsOfNets problem.now (places_of base.now) axis nets.now }
     requires empty { breakpoints.old.items ≡ [] }
-    ensures { IfOk result (λ _. breakpoints.new.items ≡ breakpoints_of (pulls problem.now (places_of base.now) cell.0 die axis)) }
+    ensures all { IfOk result (λ _. breakpoints.new.items ≡ breakpoints_of (pulls problem.now (places_of base.now) cell.0 die axis)) }
+    ensures range { IfOk result (λ _. All IsTargetPlace breakpoints.new.items) }
 {
     for conn in problem.conns_of_cell(cell) {
         let net = problem.conn(*conn).net;
