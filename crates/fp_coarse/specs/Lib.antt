@@ -1,0 +1,5 @@
+pub mod EndsOfNets
+pub mod MedianLaws
+pub mod Medians
+pub mod Targets
+pub mod TargetsLaws
