@@ -1,0 +1,11 @@
+mod Bests
+mod Counting
+mod Firsts
+mod Holding
+mod Hulls
+mod Laying
+mod Roominess
+mod Rows
+mod Sorting
+mod Taking
+mod Widest

@@ -67,14 +67,17 @@ pub record AreSegments (segments : List Segment) : Type 0 where
   pub each : (number : ℕ) → number < length segments → IsSegment (at segments number)
   pub rising : (i j : ℕ) → i ≤ j → j < length segments → (at segments i).y ≤ℤ (at segments j).y
 
--- the hull of segments in x
-pub record IsHull (segments : List Segment) (hull : Hull) : Type 0 where
+-- the hull of the segments below a number in x
+pub record IsHullBelow (segments : List Segment) (count : ℕ) (hull : Hull) : Type 0 where
   pub low_least : pos 0 ≤ℤ hull.low
   pub low_most : hull.low ≤ℤ pos (2 ^ 30)
   pub high_least : pos 0 ≤ℤ hull.high
   pub high_most : hull.high ≤ℤ pos (2 ^ 31)
-  pub from : (number : ℕ) → number < length segments → hull.low ≤ℤ (at segments number).start
-  pub to : (number : ℕ) → number < length segments → ((at segments number).start +ℤ (at segments number).length) ≤ℤ hull.high
+  pub from : (number : ℕ) → number < count → hull.low ≤ℤ (at segments number).start
+  pub to : (number : ℕ) → number < count → ((at segments number).start +ℤ (at segments number).length) ≤ℤ hull.high
+
+abbrev pub IsHull : List Segment → Hull → Type 0
+IsHull segments hull = IsHullBelow segments (length segments) hull
 
 -- a coordinate is within 2^32 of 0
 pub record IsNear (z : ℤ) : Type 0 where

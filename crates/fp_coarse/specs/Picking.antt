@@ -1,5 +1,5 @@
 -- What a pick answers.
-use Rattle.std.specs.Prelude.{◌≡◌, ℕ, ◌<◌, List, [], length, get_or, Some, Result, Ok, Err, IsTrue, pos, ◌≤ℤ◌}
+use Rattle.std.specs.Prelude.{◌≡◌, ℕ, ◌<◌, List, [], length, get_or, set, Option, Some, Result, Ok, Err, IsTrue, ℤ, pos, ◌-ℤ◌, ◌≤ℤ◌}
 use Rattle.std.specs.List.{sum_by}
 use Rattle.fp_base.specs.declared.ids.CellId.{CellId}
 use Rattle.fp_base.specs.declared.ids.Die.{Die}
@@ -12,10 +12,12 @@ use Rattle.fp_place.specs.Areas.{fits}
 use Rattle.fp_place.specs.Places.{die_at}
 use Rattle.fp_place.specs.Placed.{LaneList, lanes_on, entry_at, StandOnce}
 use Rattle.fp_score.specs.FirstFit.{segment_at}
-use Rattle.fp_score.specs.Pick.{Taken, pick_on, taken_by, lanes_by, picked, point_at}
+use Rattle.fp_score.specs.Pick.{Taken, taken_width, pick_on, taken_by, lanes_by, picked, point_at}
 use Rattle.fp_coarse.specs.declared.picking.Picked.{Picked}
 use Rattle.fp_coarse.specs.declared.picking.Picked.TheVariants.{Rows, NoRow}
-use Rattle.fp_coarse.specs.Nearest.{IsNearPoint}
+use Rattle.fp_coarse.specs.declared.order.Choice.{Choice}
+use Rattle.fp_coarse.specs.Rooms.{has_free}
+use Rattle.fp_coarse.specs.Nearest.{IsNearPoint, IsFirstLeast, cost_at}
 use Rattle.fp_coarse.specs.Orders.{numbers_of}
 
 -- one die and one target for each cell; each cell fits its die, and targets are within 2^32 of 0
@@ -34,6 +36,27 @@ pub record AreNear (p : Netlist) (targets : List Point) : Type 0 where
 abbrev pub IsPicked : Netlist → List Die → List Point → Picked → Type 0
 IsPicked p dies targets (Rows top bottom) = picked p dies targets ≡ Ok (record { top = top; bottom = bottom })
 IsPicked p dies targets (NoRow cell) = picked p dies targets ≡ Err cell.0
+
+-- a cell of the problem that took a segment of a die
+pub record IsChoice (p : Netlist) (die : Die) (choice : Choice) : Type 0 where
+  pub cell : choice.cell.0 < length p.cells
+  pub segment : choice.segment < length (segments p.plan die)
+
+-- of the segments with room for a cell, the first to which it is moved least, or none where none has room
+abbrev pub IsNearest : Netlist → List Point → Die → List ℤ → ℕ → Option ℕ → Type 0
+IsNearest p targets die free cell found =
+    IsFirstLeast (has_free free (pos (width p cell die))) (cost_at (segments p.plan die) (pos (width p cell die)) (point_at targets cell)) 0 (length (segments p.plan die)) found
+
+-- a segment's free length falls by a width
+abbrev pub lowered : List ℤ → ℕ → ℕ → List ℤ
+lowered free segment by = set free segment (get_or free segment (pos 0) -ℤ pos by)
+
+-- free lengths are what is left by those that took segments
+pub record AreLeft (p : Netlist) (die : Die) (taken : List Taken) (free : List ℤ) : Type 0 where
+  pub many : length free ≡ length (segments p.plan die)
+  pub low : (number : ℕ) → pos 0 ≤ℤ get_or free number (pos 0)
+  pub left : (number : ℕ) → number < length (segments p.plan die)
+      → get_or free number (pos 0) ≡ (segment_at p.plan die number).length -ℤ pos (taken_width p die number taken)
 
 -- what cells of a die take, one after the other
 abbrev pub taken_in : Netlist → List Point → Die → List CellId → Result (List Taken) ℕ

@@ -1,8 +1,9 @@
 //! The nearest segment with room.
 
-ghost use Rattle.std.specs.Prelude.{◌≡◌, ℕ, ◌+◌, ◌-◌, ◌<◌, ◌≤◌, ◌^◌, ◌≤ℤ◌, ◌<ℤ◌, ◌-ℤ◌, pos, Bool, true, false, Option, Some, None, IsTrue, MatchOption, length, unsigned_abs};
+ghost use Rattle.std.specs.Prelude.{◌≡◌, ℕ, ◌+◌, ◌-◌, ◌<◌, ◌≤◌, ◌^◌, ◌≤ℤ◌, ◌<ℤ◌, ◌+ℤ◌, ◌-ℤ◌, pos, Bool, true, false, Option, Some, None, IsTrue, MatchOption, length, unsigned_abs};
+ghost use Rattle.std.specs.Int.{int_min, int_max};
 ghost use Rattle.fp_score.specs.Pick.{distance_to};
-ghost use Rattle.fp_coarse.specs.Nearest.{IsFirstLeast, IsNear, IsNearPoint, at, rise_to, cost_of, AreSegments, IsHull, CanSearch, IsBestOf, is_beaten, is_passed, earlier, later, cost_at, AreFree};
+ghost use Rattle.fp_coarse.specs.Nearest.{IsFirstLeast, IsNear, IsNearPoint, at, reach_to, IsSegment, AreSegments, IsHull, CanSearch, IsBestOf, is_beaten, is_passed, earlier, later, cost_at, AreFree};
 ghost use Rattle.fp_coarse.specs.Rooms.{has_free, AreRooms};
 
 use crate::rooms::Rooms;
@@ -41,40 +42,76 @@ pub fn hull_of(segments: &[Segment]) -> Hull
         high: 0,
     };
     for segment in segments {
-        hull = Hull {
-            low: hull.low.min(segment.start),
-            high: hull.high.max(segment.start + segment.length),
-        };
+        hull = widened(hull, segment);
     }
     hull
 }
 
+// A hull, widened as far as it has a segment in it.
+fn widened(hull: Hull, segment: &Segment) -> Hull
+    requires { IsSegment segment.now }
+    ensures low { result.low ≡ int_min hull.low segment.now.start }
+    ensures high { result.high ≡ int_max hull.high (segment.now.start +ℤ segment.now.length) }
+{
+    Hull {
+        low: hull.low.min(segment.start),
+        high: hull.high.max(end_of(segment)),
+    }
+}
+
 // How far a coordinate is from an interval.
 fn distance(from: i64, to: i64, at: i64) -> u64
-    ensures { result ≡ distance_to from to at }
+    requires from { IsNear from }
+    requires to { IsNear to }
+    requires at { IsNear at }
+    ensures value { result ≡ distance_to from to at }
+    ensures small { result ≤ 2 ^ 34 }
 {
     at.abs_diff(from.max(at.min(to)))
 }
 
-// How far the target is from a segment's row in y.
+// How far a target is from a segment's row in y.
 fn rise(segment: &Segment, target: Point) -> u64
-    ensures { result ≡ unsigned_abs (segment.now.y -ℤ target.y) }
+    requires segment { IsSegment segment.now }
+    requires target { IsNearPoint target }
+    ensures value { result ≡ unsigned_abs (segment.now.y -ℤ target.y) }
+    ensures small { result ≤ 2 ^ 48 }
 {
     segment.y.abs_diff(target.y)
 }
 
-// How far the cell is moved to a segment.
-fn cost(segments: &[Segment], aim: Aim, number: usize) -> u64
-    requires segments { AreSegments segments.now }
-    requires within { number < length segments.now }
+// Where a segment ends in x.
+fn end_of(segment: &Segment) -> i64
+    requires { IsSegment segment.now }
+    ensures value { result ≡ segment.now.start +ℤ segment.now.length }
+    ensures least { pos 0 ≤ℤ result }
+    ensures most { result ≤ℤ pos (2 ^ 31) }
+{
+    segment.start + segment.length
+}
+
+// The greatest x of a cell of a width that ends at most there.
+fn last_x(end: i64, width: i64) -> i64
+    requires least { pos 0 ≤ℤ end }
+    requires most { end ≤ℤ pos (2 ^ 31) }
+    requires some { pos 1 ≤ℤ width }
+    requires small { width ≤ℤ pos (2 ^ 30) }
+    ensures value { result ≡ end -ℤ width }
+    ensures near { IsNear result }
+{
+    end - width
+}
+
+// How far a cell is moved to a segment.
+fn cost_to(segment: &Segment, aim: Aim) -> u64
+    requires segment { IsSegment segment.now }
     requires some { pos 1 ≤ℤ aim.width }
     requires small { aim.width ≤ℤ pos (2 ^ 30) }
     requires target { IsNearPoint aim.target }
-    ensures { result ≡ cost_of segments.now aim number }
+    ensures { result ≡ unsigned_abs (segment.now.y -ℤ aim.target.y) + reach_to segment.now aim.width aim.target.x }
 {
-    let segment = segments[number];
-    let end = segment.start + segment.length - aim.width;
-    rise(&segment, aim.target) + distance(segment.start, end, aim.target.x)
+    let last = last_x(end_of(segment), aim.width);
+    rise(segment, aim.target) + distance(segment.start, last, aim.target.x)
 }
 
 // Whether nothing at this distance or farther is better than the best so far.
@@ -132,7 +169,7 @@ fn above(segments: &[Segment], rooms: &Rooms, aim: Aim, from: usize) -> Option<F
         }
         let other = Found {
             segment: number,
-            cost: cost(segments, aim, number),
+            cost: cost_to(&segments[number], aim),
         };
         best = Some(earlier(best, other));
         number = rooms.next_open(aim.width, number + 1);
@@ -163,7 +200,7 @@ fn below(
         }
         let other = Found {
             segment: number,
-            cost: cost(segments, aim, number),
+            cost: cost_to(&segments[number], aim),
         };
         best = Some(later(best, other));
         low = rooms.last_open(aim.width, number);
@@ -181,8 +218,39 @@ fn first_at(segments: &[Segment], y: i64) -> usize
     segments.partition_point(|segment| segment.y < y)
 }
 
-/// Of the segments with room for a width the nearest to a target, the first among ties, or None where none has room. They are tried from
-/// the target's row upwards and then downwards, as far as one may be nearer.
+// The best segment of all. They are tried from the target's row upwards and then downwards, as far as one may be better.
+fn search(segments: &[Segment], rooms: &Rooms, aim: Aim) -> Option<Found>
+    requires { CanSearch segments.now rooms.now.free.items rooms.now.most.items aim }
+    ensures { IsBestOf segments.now rooms.now.free.items aim 0 (length segments.now) result }
+{
+    let from = first_at(segments, aim.target.y);
+    let best = above(segments, rooms, aim, from);
+    below(segments, rooms, aim, from, best)
+}
+
+// What is searched for.
+fn aim_at(hull: Hull, width: i64, target: Point) -> Aim
+    requires low { IsNear hull.low }
+    requires least { pos 0 ≤ℤ hull.high }
+    requires most { hull.high ≤ℤ pos (2 ^ 31) }
+    requires some { pos 1 ≤ℤ width }
+    requires small { width ≤ℤ pos (2 ^ 30) }
+    requires target { IsNearPoint target }
+    ensures width { result.width ≡ width }
+    ensures target { result.target ≡ target }
+    ensures side { result.side ≡ distance_to hull.low (hull.high -ℤ width) target.x }
+    ensures small { result.side ≤ 2 ^ 34 }
+{
+    let side = distance(hull.low, last_x(hull.high, width), target.x);
+    Aim {
+        width,
+        target,
+        side,
+    }
+}
+
+/// Of the segments with room for a width the one to which it is moved least from its target, the first among ties, or None where none has
+/// room.
 pub fn nearest(
     segments: &[Segment],
     rooms: &Rooms,
@@ -200,19 +268,9 @@ pub fn nearest(
     requires target { IsNearPoint target }
     ensures { IsFirstLeast (has_free rooms.now.free.items width) (cost_at segments.now width target) 0 (length segments.now) result }
 {
-    let side = distance(hull.low, hull.high - width, target.x);
-    let aim = Aim {
-        width,
-        target,
-        side,
-    };
-    let from = first_at(segments, target.y);
-    let best = below(
-        segments,
-        rooms,
-        aim,
-        from,
-        above(segments, rooms, aim, from),
-    );
-    best.map(|found| found.segment as u32)
+    let aim = aim_at(hull, width, target);
+    match search(segments, rooms, aim) {
+        Some(found) => Some(found.segment as u32),
+        None => None,
+    }
 }

@@ -1,12 +1,15 @@
 //! The choice of rows.
 
-ghost use Rattle.std.specs.Prelude.{◌≡◌, ◌<◌, All, length, IfOk, MatchResult};
+ghost use Rattle.std.specs.Prelude.{◌≡◌, ◌<◌, All, length, IfOk, IfSome, MatchResult};
 ghost use Rattle.fp_tech.specs.Plan.{segments};
 ghost use Rattle.fp_score.specs.Pick.{lanes_by};
+ghost use Rattle.fp_netlist.specs.Points.{width};
+ghost use Rattle.fp_coarse.specs.Nearest.{AreFree, IsHull};
+ghost use Rattle.fp_coarse.specs.Rooms.{AreRooms};
 ghost use Rattle.fp_coarse.specs.Orders.{taken_of};
-ghost use Rattle.fp_coarse.specs.Picking.{CanPick, AreNear, IsPicked, HoldsAll, PicksOn, taken_in};
+ghost use Rattle.fp_coarse.specs.Picking.{CanPick, AreNear, IsPicked, HoldsAll, PicksOn, IsChoice, IsNearest, lowered, taken_in};
 
-use crate::nearest::{hull_of, nearest};
+use crate::nearest::{Hull, hull_of, nearest};
 use crate::order::{Choice, by_target, widest_first};
 use crate::rooms::Rooms;
 use fp_base::{Bottom, CellId, Die, NoMemory, Point, SegId, Side, Top};
@@ -40,6 +43,7 @@ pub fn pick(
     ensures picked { IfOk result (IsPicked problem.now dies.now targets.now) }
     ensures holds { IfOk result (HoldsAll problem.now dies.now) }
 {
+    let _cells = problem.cells();
     let top = match pick_on(alloc, problem, dies, targets)? {
         Ok(lanes) => lanes,
         Err(cell) => return Ok(Picked::NoRow(cell)),
@@ -67,6 +71,37 @@ fn pick_on<S: Side>(
     }
 }
 
+// A cell takes the nearest segment of a die that has room for it, or finds none.
+fn take_nearest(
+    problem: &Problem,
+    targets: &[Point],
+    die: Die,
+    hull: Hull,
+    rooms: &mut Rooms,
+    cell: CellId,
+) -> Option<u32>
+    requires cell { cell.0 < length problem.now.cells }
+    requires targets { AreNear problem.now targets.now }
+    requires hull { IsHull (segments problem.now.plan die) hull }
+    requires rooms { AreRooms rooms.old.free.items rooms.old.most.items }
+    requires many { length rooms.old.free.items ≡ length (segments problem.now.plan die) }
+    requires free { AreFree (segments problem.now.plan die) rooms.old.free.items }
+    ensures nearest { IsNearest problem.now targets.now die rooms.old.free.items cell.0 result }
+    ensures rooms { AreRooms rooms.new.free.items rooms.new.most.items }
+    ensures free { IfSome result (λ segment. rooms.new.free.items ≡ lowered rooms.old.free.items segment (width problem.now cell.0 die)) }
+{
+    let segments = problem.dies().segments_of(die);
+    let width = problem.width(cell, die);
+    let target = targets[cell.0 as usize];
+    match nearest(segments, rooms, hull, width, target) {
+        Some(segment) => {
+            rooms.take(segment as usize, width);
+            Some(segment)
+        }
+        None => None,
+    }
+}
+
 // Each of these cells takes a segment of a die, or the first that finds none.
 fn take_all(
     alloc: Global,
@@ -77,24 +112,22 @@ fn take_all(
 ) -> Result<Result<Vec<Choice>, CellId>, NoMemory>
     requires order { All (λ cell. cell.0 < length problem.now.cells) order.now }
     requires targets { AreNear problem.now targets.now }
-    ensures { IfOk result (λ taken. MatchResult taken (λ choices. taken_in problem.now targets.now die order.now ≡ Ok (taken_of choices.items))
+    ensures taken { IfOk result (λ taken. MatchResult taken (λ choices. taken_in problem.now targets.now die order.now ≡ Ok (taken_of choices.items))
         (λ cell. taken_in problem.now targets.now die order.now ≡ Err cell.0)) }
+    ensures choices { IfOk result (λ taken. IfOk taken (λ choices. All (IsChoice problem.now die) choices.items)) }
 {
     let segments = problem.dies().segments_of(die);
     let hull = hull_of(segments);
     let mut rooms = Rooms::new(alloc, segments)?;
     let mut choices = Vec::with_capacity(alloc, order.len())?;
     for cell in order {
-        let target = targets[cell.0 as usize];
-        let width = problem.width(*cell, die);
-        let Some(segment) = nearest(segments, &rooms, hull, width, target) else {
-            return Ok(Err(*cell));
-        };
-        rooms.take(segment as usize, width);
-        choices.push(Choice {
-            cell: *cell,
-            segment,
-        })?;
+        match take_nearest(problem, targets, die, hull, &mut rooms, *cell) {
+            Some(segment) => choices.push(Choice {
+                cell: *cell,
+                segment,
+            })?,
+            None => return Ok(Err(*cell)),
+        }
     }
     Ok(Ok(choices))
 }
@@ -106,8 +139,8 @@ fn lanes_of<S: Side>(
     targets: &[Point],
     choices: &[Choice],
 ) -> Result<Lanes<S>, NoMemory>
-    requires cells { All (λ choice. choice.cell.0 < length targets.now) choices.now }
-    requires segments { All (λ choice. choice.segment < length (segments problem.now.plan S.DIE)) choices.now }
+    requires targets { length targets.now ≡ length problem.now.cells }
+    requires choices { All (IsChoice problem.now S.DIE) choices.now }
     ensures { IfOk result (λ lanes. lanes ≡ lanes_by problem.now S.DIE targets.now (taken_of choices.now)) }
 {
     let entries = by_target(alloc, targets, choices)?;

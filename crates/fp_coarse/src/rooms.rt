@@ -1,7 +1,7 @@
 //! The free lengths of a die's segments.
 
 ghost use Rattle.std.specs.Prelude.{◌≡◌, ℕ, ◌+◌, ◌-◌, ◌/◌, ◌<◌, ◌≤◌, ◌^◌, ◌≤ℤ◌, ◌-ℤ◌, pos, false, IfOk, IsTrue, length, get_or, set};
-ghost use Rattle.fp_coarse.specs.Rooms.{lengths, has_free, AreRooms, AreShut};
+ghost use Rattle.fp_coarse.specs.Rooms.{lengths, has_free, AreRooms, AreShut, IsBounded};
 
 use fp_base::NoMemory;
 use fp_tech::Segment;
@@ -21,6 +21,7 @@ pub struct Rooms {
 impl Rooms {
     /// All segments are free.
     pub fn new(alloc: Global, segments: &[Segment]) -> Result<Rooms, NoMemory>
+        requires { length segments.now ≤ 2 ^ 16 }
         ensures rooms { IfOk result (λ rooms. AreRooms rooms.free.items rooms.most.items) }
         ensures free { IfOk result (λ rooms. rooms.free.items ≡ lengths segments.now) }
     {
@@ -58,7 +59,6 @@ impl Rooms {
     /// The first segment from a number on that has room for a width, or the number of segments where none has.
     pub fn next_open(&self, width: i64, from: usize) -> usize
         requires rooms { AreRooms self.now.free.items self.now.most.items }
-        requires few { length self.now.free.items ≤ 2 ^ 16 }
         requires within { from ≤ length self.now.free.items }
         ensures from { from ≤ result }
         ensures within { result ≤ length self.now.free.items }
@@ -120,10 +120,29 @@ impl Rooms {
         ensures rooms { AreRooms self.new.free.items self.new.most.items }
         ensures free { self.new.free.items ≡ set self.old.free.items segment (get_or self.old.free.items segment (pos 0) -ℤ width) }
     {
-        let block = segment / BLOCK;
-        self.free[segment] -= width;
-        self.most[block] = greatest(self.free.as_slice(), block);
+        lower(&mut self.free, segment, width);
+        set_bound(&mut self.most, self.free.as_slice(), segment / BLOCK);
     }
+}
+
+// A free length falls by a width.
+fn lower(free: &mut Vec<i64>, segment: usize, width: i64)
+    requires within { segment < length free.old.items }
+    requires some { pos 0 ≤ℤ width }
+    requires room { IsTrue (has_free free.old.items width segment) }
+    ensures { free.new.items ≡ set free.old.items segment (get_or free.old.items segment (pos 0) -ℤ width) }
+{
+    free[segment] -= width;
+}
+
+// Sets the bound of a block to its greatest free length.
+fn set_bound(most: &mut Vec<i64>, free: &[i64], block: usize)
+    requires few { length free.now ≤ 2 ^ 16 }
+    requires within { block ≤ length free.now }
+    requires there { block < length most.old.items }
+    ensures { IsBounded free.now block most.old.items most.new.items }
+{
+    most[block] = greatest(free, block);
 }
 
 fn free_lengths(alloc: Global, segments: &[Segment]) -> Result<Vec<i64>, NoMemory>
@@ -138,6 +157,7 @@ fn free_lengths(alloc: Global, segments: &[Segment]) -> Result<Vec<i64>, NoMemor
 
 // The bounds of all blocks.
 fn bounds(alloc: Global, free: &[i64]) -> Result<Vec<i64>, NoMemory>
+    requires { length free.now ≤ 2 ^ 16 }
     ensures { IfOk result (λ most. AreRooms free.now most.items) }
 {
     let blocks = free.len() / BLOCK + 1;
@@ -150,7 +170,8 @@ fn bounds(alloc: Global, free: &[i64]) -> Result<Vec<i64>, NoMemory>
 
 // The greatest free length of a block.
 fn greatest(free: &[i64], block: usize) -> i64
-    requires { block ≤ length free.now }
+    requires few { length free.now ≤ 2 ^ 16 }
+    requires within { block ≤ length free.now }
     ensures { (number : ℕ) → number < length free.now → number / 64 ≡ block → get_or free.now number (pos 0) ≤ℤ result }
 {
     let from = block * BLOCK;
