@@ -4,6 +4,7 @@ mod Firsts
 mod Holding
 mod Hulls
 mod Laying
+mod Picks
 mod Roominess
 mod Rows
 mod Sorting
