@@ -1,5 +1,9 @@
 pub mod EndsOfNets
 pub mod MedianLaws
 pub mod Medians
+pub mod Nearest
+pub mod Orders
+pub mod Picking
+pub mod Rooms
 pub mod Targets
 pub mod TargetsLaws
