@@ -1,0 +1,3 @@
+pub mod CutNets
+pub mod KeptTable
+pub mod Table
