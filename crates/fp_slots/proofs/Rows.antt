@@ -19,7 +19,7 @@ use Rattle.fp_score.specs.Score.{reach_of, point, pins_on}
 use Rattle.fp_score.specs.Reaches.{reach_after, pins_reached, IsNearReach, AreNear}
 use Rattle.fp_score.specs.ScoreLaws.{after_with}
 use Rattle.fp_slots.specs.declared.cut_net.CutNet.{CutNet}
-use Rattle.fp_slots.specs.CutNets.{joined, cut_net_of, cut_nets, IsNearNet}
+use Rattle.fp_slots.specs.CutNets.{on_both, cut_net_of, cut_nets, IsNearNet}
 use Rattle.fp_slots.specs.Table.{no_net, IsRowOf}
 
 -- pins reach a die exactly where one of them is on it
@@ -42,7 +42,7 @@ unfolding pins_on
 reached_die p places die net = reached p places die (conns_of_net p net)
 
 -- a net is cut exactly where its pins reach both dies
-both_reached : (net : NetId) (top bottom : Option Reach) → is_some (joined net top bottom) ≡ (is_some top && is_some bottom)
+both_reached : (net : NetId) (top bottom : Option Reach) → is_some (on_both net top bottom) ≡ (is_some top && is_some bottom)
 both_reached net None bottom = refl
 both_reached net (Some top) None = refl
 both_reached net (Some top) (Some bottom) = refl
@@ -57,12 +57,12 @@ some_where_cut p places net =
     ∙ (λ i. reached_die p places Top net i && reached_die p places Bottom net i)
 
 -- what a net is whose pins reach both dies
-record IsJoined (net : NetId) (top bottom : Option Reach) (it : CutNet) : Type 0 where
+record IsOnBoth (net : NetId) (top bottom : Option Reach) (it : CutNet) : Type 0 where
   net_is : it.net ≡ net
   top_is : top ≡ Some it.top
   bottom_is : bottom ≡ Some it.bottom
 
-parts : (net : NetId) (top bottom : Option Reach) (it : CutNet) → joined net top bottom ≡ Some it → IsJoined net top bottom it
+parts : (net : NetId) (top bottom : Option Reach) (it : CutNet) → on_both net top bottom ≡ Some it → IsOnBoth net top bottom it
 parts net None bottom it e = absurd (let nothing : None ≡ Some it = e in cc)
 parts net (Some top) None it e = absurd (let nothing : None ≡ Some it = e in cc)
 parts net (Some top) (Some bottom) it e =
@@ -131,8 +131,8 @@ rows_are p places (suc net) few row within = by (net_at p places net) refl (rows
         ]
 
 -- the reaches of a cut net are in range
-pub joined_near : (net : NetId) (reaches : Reaches) (it : CutNet) → AreNear reaches → Some it ≡ cut_net_of net reaches → IsNearNet it
-joined_near net reaches it near is =
+pub cut_net_near : (net : NetId) (reaches : Reaches) (it : CutNet) → AreNear reaches → Some it ≡ cut_net_of net reaches → IsNearNet it
+cut_net_near net reaches it near is =
     let both = parts net reaches.top reaches.bottom it (sym is) in
     record {
       top = subst (λ (r : Option Reach). IfSome r IsNearReach) both.top_is near.top;

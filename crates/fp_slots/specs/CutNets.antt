@@ -12,13 +12,13 @@ use Rattle.fp_score.specs.Reaches.{pins_reached, IsNearReach}
 use Rattle.fp_slots.specs.declared.cut_net.CutNet.{CutNet}
 
 -- a net that reaches both dies
-abbrev pub joined : NetId → Option Reach → Option Reach → Option CutNet
-joined net None bottom = None
-joined net (Some top) None = None
-joined net (Some top) (Some bottom) = Some (record { net = net; top = top; bottom = bottom })
+abbrev pub on_both : NetId → Option Reach → Option Reach → Option CutNet
+on_both net None bottom = None
+on_both net (Some top) None = None
+on_both net (Some top) (Some bottom) = Some (record { net = net; top = top; bottom = bottom })
 
 abbrev pub cut_net_of : NetId → Reaches → Option CutNet
-cut_net_of net reaches = joined net reaches.top reaches.bottom
+cut_net_of net reaches = on_both net reaches.top reaches.bottom
 
 -- the cut ones of the first nets
 unfoldable pub cut_nets : Netlist → List Place → ℕ → List CutNet

@@ -5,3 +5,6 @@ mod cut_net;
 mod slot_costs;
 
 pub use slot_costs::SlotCosts;
+
+#[cfg(test)]
+mod tests;
