@@ -1,0 +1,5 @@
+pub mod Lengths
+pub mod Rows
+pub mod SlotLemmas
+pub mod SmallLanes
+pub mod Tables

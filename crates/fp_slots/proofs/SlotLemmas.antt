@@ -1,0 +1,60 @@
+-- The centres of slots, and the slots of one y.
+use Rattle.std.proofs.Common.{◌≡◌, ℕ, zero, suc, ◌+◌, ◌-◌, ◌*◌, ◌/◌, ◌<◌, ◌≤◌, ◌==◌, if◌then◌else◌, pos, sym, ap, subst, ◌∙◌, arith}
+use Rattle.std.proofs.lemmas.Bool.Decides.{nat_tests}
+use Rattle.std.proofs.lemmas.Int.{ints}
+use Rattle.std.proofs.lemmas.Nat.{div-mul-add}
+use Rattle.fp_tech.specs.declared.dies.Frame.{Frame}
+use Rattle.fp_tech.specs.declared.dies.TermSpec.{TermSpec}
+use Rattle.fp_tech.specs.Plan.{IsFrame, IsTermSpec}
+use Rattle.fp_tech.specs.Slots.{Slots, across, up, slot_count, row_y, centre_of, KeepsEdges, IsGrid}
+use Rattle.fp_tech.specs.SlotsLaws.{slot_keeps_edges}
+use Rattle.fp_score.specs.Reaches.{IsNear}
+use Rattle.fp_slots.specs.Table.{stripe_of}
+
+-- a slot's centre is in range
+pub centre_near : (frame : Frame) (terminal : TermSpec) (grid : Slots) → IsFrame frame → IsTermSpec terminal → IsGrid frame terminal grid
+    → (slot : ℕ) → slot < slot_count grid → IsNear (centre_of grid slot)
+centre_near frame terminal grid is_frame is_terminal is slot below =
+    let keeps : KeepsEdges grid.frame grid.terminal (centre_of grid slot) =
+    slot_keeps_edges grid (subst IsTermSpec (sym is.terminal_is) is_terminal) is.some_stride slot below in
+    let framed : IsFrame grid.frame = subst IsFrame (sym is.frame_is) is_frame in
+    record {
+      left = omega (arith, ints);
+      right = omega (arith, ints, keeps.right, framed.right);
+      low = omega (arith, ints);
+      high = omega (arith, ints, keeps.high, framed.upper);
+    }
+
+-- a stripe is a row of slots, where there are any
+pub stripe_is : (grid : Slots) (slot : ℕ) → slot < slot_count grid → stripe_of grid ≡ across grid
+stripe_is grid slot below = chosen (slot_count grid) (across grid) below
+  where
+    chosen : (count width : ℕ) → slot < count → (if count == 0 then 1 else width) ≡ width
+    chosen count width some = grind (arith, nat_tests)
+
+-- the slots of a stripe are those of a row
+pub row_of : (grid : Slots) (stripe slot : ℕ) → stripe * stripe_of grid ≤ slot → slot < stripe * stripe_of grid + stripe_of grid → slot < slot_count grid
+    → slot / across grid ≡ stripe
+row_of grid stripe slot from to below = by (stripe_of grid) (stripe_is grid slot below) from to
+  where
+    by : (width : ℕ) → width ≡ across grid → stripe * width ≤ slot → slot < stripe * width + width → slot / across grid ≡ stripe
+    by width is from to =
+        ap (λ w. slot / w) (sym is)
+        ∙ ap (λ n. n / width) (let same : slot ≡ stripe * width + (slot - stripe * width) = omega arith in same)
+        ∙ div-mul-add stripe width (slot - stripe * width) (omega arith)
+
+-- a stripe has slots
+some_across : (width rows slot : ℕ) → slot < width * rows → 0 < width
+some_across zero rows slot below = omega arith
+some_across (suc width) rows slot below = omega arith
+
+-- the first slot of a stripe has the y of its row
+pub first_of_row : (grid : Slots) (stripe : ℕ) → stripe * stripe_of grid < slot_count grid → (centre_of grid (stripe * across grid)).y ≡ pos (row_y grid stripe)
+first_of_row grid stripe below =
+    let same : stripe_of grid ≡ across grid = stripe_is grid (stripe * stripe_of grid) below in
+    let wide : 0 < across grid = some_across (across grid) (up grid) (stripe * stripe_of grid) below in
+    let to : stripe * stripe_of grid < stripe * stripe_of grid + stripe_of grid = omega arith in
+    ap (λ width. pos (row_y grid ((stripe * width) / across grid))) (sym same) ∙ ap (λ row. pos (row_y grid row)) (row_of grid stripe (stripe * stripe_of grid) (omega arith) to below)
+
+pub first_below : (grid : Slots) (stripe : ℕ) → stripe * stripe_of grid < slot_count grid → stripe * across grid < slot_count grid
+first_below grid stripe below = subst (λ width. stripe * width < slot_count grid) (stripe_is grid (stripe * stripe_of grid) below) below

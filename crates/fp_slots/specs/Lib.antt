@@ -1,0 +1,4 @@
+pub mod CutNets
+pub mod KeptTable
+pub mod Table
+pub mod TableLaws

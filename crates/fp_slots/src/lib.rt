@@ -1,0 +1,10 @@
+//! What it costs to give a cut net's terminal a slot.
+#![tactic(auto)]
+
+mod cut_net;
+mod slot_costs;
+
+pub use slot_costs::SlotCosts;
+
+#[cfg(test)]
+mod tests;

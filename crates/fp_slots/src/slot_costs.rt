@@ -1,0 +1,132 @@
+//! What each slot costs each cut net.
+
+ghost use Rattle.std.specs.Prelude.{◌≡◌, ◌<◌, ◌≤◌, ◌*◌, ◌^◌, All, IfOk, length, pos};
+ghost use Rattle.fp_tech.specs.Slots.{slot_count, row_y, IsGrid};
+ghost use Rattle.fp_place.specs.Placed.{places_of, IsPlacementOf};
+ghost use Rattle.fp_match.specs.Prices.{IsFloor};
+ghost use Rattle.fp_slots.specs.CutNets.{cut_nets, IsNearNet, IsLeastAt};
+ghost use Rattle.fp_slots.specs.Table.{row_at, net_of, cost_of, stripe_of, IsCostsOf};
+
+use crate::cut_net::CutNet;
+use fp_base::{NetId, NoMemory, Point, SlotId};
+use fp_match::Costs;
+use fp_netlist::Problem;
+use fp_place::Placement;
+use fp_score::net_reaches;
+use fp_tech::Grid;
+use std::alloc::Global;
+use std::marker::Model;
+
+/// What it costs to give a cut net's terminal a slot: the net's length with its terminal there. Rows are the cut nets in file order, columns
+/// the slots of a grid, and a stripe is the slots of one y. No cost is kept: each is computed from what the net's pins reach on each die.
+#[derive(Drop)]
+pub struct SlotCosts {
+    rows: Vec<CutNet>,
+    grid: Grid,
+}
+
+impl Model for SlotCosts {
+    ghost use Rattle.fp_slots.specs.Table.{SlotTable};
+
+    ghost Value = { SlotTable };
+
+    ghost use Rattle.fp_slots.specs.KeptTable.{table_of, IsKept};
+
+    ghost view = { table_of };
+
+    ghost invariant = { IsKept };
+}
+
+impl SlotCosts {
+    /// The costs of a placement's cut nets over its problem's grid of slots. Terminals that the placement has do not count.
+    pub fn new(
+        alloc: Global,
+        problem: &Problem,
+        placement: &Placement,
+        grid: &Grid,
+    ) -> Result<SlotCosts, NoMemory>
+        requires of_problem { IsPlacementOf problem.now placement.now }
+        requires grid { IsGrid problem.now.plan.frame problem.now.plan.terminal grid.now }
+        ensures { IfOk result (IsCostsOf problem.now placement.now grid.now) }
+    {
+        let _ranges = problem.dies().frame();
+        let rows = cut_nets(alloc, problem, placement)?;
+        Ok(SlotCosts { rows, grid: *grid })
+    }
+
+    /// The net of a row.
+    pub fn net_of(&self, row: u32) -> NetId
+        requires { row < length self.now.rows }
+        ensures { result.0 ≡ net_of self.now row }
+    {
+        self.rows[row as usize].net
+    }
+}
+
+// The cut nets in file order.
+fn cut_nets(
+    alloc: Global,
+    problem: &Problem,
+    placement: &Placement,
+) -> Result<Vec<CutNet>, NoMemory>
+    requires { IsPlacementOf problem.now placement.now }
+    ensures nets { IfOk result (λ rows. rows.items ≡ cut_nets problem.now (places_of placement.now) (length problem.now.nets)) }
+    ensures near { IfOk result (λ rows. All IsNearNet rows.items) }
+    ensures few { length problem.now.nets ≤ 2 ^ 18 }
+{
+    let mut rows = Vec::new(alloc);
+    for net in 0..problem.nets() {
+        let net = NetId(net);
+        if let Some(row) = CutNet::of(net, net_reaches(problem, placement, net)) {
+            rows.push(row)?;
+        }
+    }
+    Ok(rows)
+}
+
+impl Costs for SlotCosts {
+    ghost row_count = { λ costs. length costs.rows };
+
+    ghost column_count = { λ costs. slot_count costs.grid };
+
+    ghost cost_of = { cost_of };
+
+    ghost stripe_width = { λ costs. stripe_of costs.grid };
+
+    fn rows(&self) -> u32 {
+        self.rows.len() as u32
+    }
+
+    fn columns(&self) -> u32 {
+        self.grid.slots()
+    }
+
+    fn cost(&self, row: u32, column: u32) -> u64 {
+        let centre = self.grid.centre(SlotId(column));
+        self.rows[row as usize].length_with(centre)
+    }
+
+    /// The number of slots of one y, 1 where there is no slot.
+    fn stripe(&self) -> u32 {
+        if self.grid.slots() == 0 {
+            1
+        } else {
+            self.grid.across()
+        }
+    }
+
+    /// What the row's net is long with its terminal at the stripe's y and at the best whole-number x.
+    fn floor(&self, row: u32, stripe: u32) -> u64
+        requires row_in { row < length self.now.rows }
+        requires stripe_in { stripe * stripe_of self.now.grid < slot_count self.now.grid }
+        ensures exact { IsLeastAt (row_at self.now row) (pos (row_y self.now.grid stripe)) result }
+        ensures floor { IsFloor (cost_of self.now row) (slot_count self.now.grid) (stripe_of self.now.grid) stripe result }
+    {
+        let first = self.grid.centre(SlotId(stripe * self.grid.across()));
+        let row = self.rows[row as usize];
+        row.length_with(Point {
+            x: row.best_x(),
+            y: first.y,
+        })
+    }
+}
