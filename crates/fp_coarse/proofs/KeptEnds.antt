@@ -103,7 +103,7 @@ pub pushed_same : (p : Netlist) (base : List Place) (cell : ℕ) (die : Die) (ax
     → ends_of (others_at p base cell axis (conn_at p conn).net.0) ≡ None → ArePushed p base cell die axis (conn ∷ left) points → ArePushed p base cell die axis left points
 pushed_same p base cell die axis conn left points none so_far = record {
   all = sym (ap (λ (rest : List ℤ). points ++ rest) (next_points p base cell die axis conn left
-          ∙ ap (λ (ends : Option Ends). with_ends ends (along axis (offset p (conn_at p conn) die)) (breakpoints_of (pulls_of p base cell die axis left))) none)) ∙ so_far.all;
+      ∙ ap (λ (ends : Option Ends). with_ends ends (along axis (offset p (conn_at p conn) die)) (breakpoints_of (pulls_of p base cell die axis left))) none)) ∙ so_far.all;
 }
 
 pub pushed_both : (p : Netlist) (base : List Place) (cell : ℕ) (die : Die) (axis : Axis) (conn : ℕ) (left : List ℕ) (points more : List ℤ) (ends : Ends) (off : ℤ)

@@ -44,11 +44,11 @@ turn : (pull : Pull) (at : ℤ) → pull_length (at +ℤ pos 1) pull +ℤ pos 1 
 turn pull at =
     by_lt_z at (pull.low -ℤ pull.off)
     (λ left. by_lt_z at (pull.high -ℤ pull.off)
-      (λ under. omega (arith, ints, clamps, counted_no (pull.low -ℤ pull.off) at left, counted_no (pull.high -ℤ pull.off) at under))
-      (λ over. omega (arith, ints, clamps, counted_no (pull.low -ℤ pull.off) at left, counted_yes (pull.high -ℤ pull.off) at over)))
+    (λ under. omega (arith, ints, clamps, counted_no (pull.low -ℤ pull.off) at left, counted_no (pull.high -ℤ pull.off) at under))
+    (λ over. omega (arith, ints, clamps, counted_no (pull.low -ℤ pull.off) at left, counted_yes (pull.high -ℤ pull.off) at over)))
     (λ right. by_lt_z at (pull.high -ℤ pull.off)
-      (λ under. omega (arith, ints, clamps, counted_yes (pull.low -ℤ pull.off) at right, counted_no (pull.high -ℤ pull.off) at under))
-      (λ over. omega (arith, ints, clamps, counted_yes (pull.low -ℤ pull.off) at right, counted_yes (pull.high -ℤ pull.off) at over)))
+    (λ under. omega (arith, ints, clamps, counted_yes (pull.low -ℤ pull.off) at right, counted_no (pull.high -ℤ pull.off) at under))
+    (λ over. omega (arith, ints, clamps, counted_yes (pull.low -ℤ pull.off) at right, counted_yes (pull.high -ℤ pull.off) at over)))
 
 pub own_turns : (pulls : List Pull) (at : ℤ) → own_of pulls (at +ℤ pos 1) +ℤ pos (length pulls) ≡ own_of pulls at +ℤ pos (at_most (breakpoints_of pulls) at)
 unfolding own_of breakpoints_of

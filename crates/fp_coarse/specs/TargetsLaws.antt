@@ -14,4 +14,4 @@ pub targets_once : (p : Netlist) (base : List Place) (dies : List Die) (targets 
 targets_once p base dies targets others are also =
     ext_get_or (record { x = pos 0; y = pos 0 }) targets others (are.many ∙ sym also.many)
     (λ cell within. let below : cell < length p.cells = omega (arith, are.many) in
-      one_target p base dies cell (point_at targets cell) (point_at others cell) (are.each cell below) (also.each cell below))
+    one_target p base dies cell (point_at targets cell) (point_at others cell) (are.each cell below) (also.each cell below))

@@ -116,6 +116,20 @@ fn add_cell(
     Ok(())
 }
 
+/// Adds the net and the cells.
+fn fill(
+    rt: &impl Abort,
+    builder: &mut ProblemBuilder,
+    lib: LibId,
+    cells: &[Standing],
+) -> Result<(), BuildFault> {
+    builder.add_net(b"N1")?;
+    for cell in cells {
+        add_cell(rt, builder, lib, cell)?;
+    }
+    Ok(())
+}
+
 /// A problem with one net.
 fn problem_of(
     rt: &impl Abort,
@@ -127,43 +141,30 @@ fn problem_of(
     let (book, lib) = two_technologies(rt, alloc, top, bottom)?;
     let dies = two_rows(rt, alloc, book)?;
     let mut builder = ProblemBuilder::new(alloc, dies);
-    builder.add_net(b"N1")?;
-    for cell in cells {
-        add_cell(rt, &mut builder, lib, cell)?;
-    }
+    fill(rt, &mut builder, lib, cells)?;
     Ok(builder.finish()?)
 }
 
-/// The cells where they stand, with a terminal where the net is cut.
-fn drawn_of(
+/// Draws the cells where they stand, with a terminal where the net is cut.
+fn draw(
     rt: &impl Abort,
-    alloc: Global,
+    drawn: &mut Drawn,
     cells: &[Standing],
     is_cut: bool,
-) -> Result<Drawn, NoMemory> {
-    let mut drawn = Drawn::new(alloc);
-    for (number, cell) in cells.iter().enumerate() {
-        let x = cell.x;
+) -> Result<(), NoMemory> {
+    assert!(rt; cells.len() < 10);
+    for (number, standing) in cells.iter().enumerate() {
+        let x = standing.x;
         assert!(rt; x >= 0);
         assert!(rt; x < 50);
-        let cell_id = CellId(number as u32);
-        drawn.push_cell(
-            cell.die,
-            DrawnCell {
-                cell: cell_id,
-                x,
-                y: 0,
-            },
-        )?;
+        let cell = CellId(number as u32);
+        drawn.push_cell(standing.die, DrawnCell { cell, x, y: 0 })?;
     }
     if is_cut {
-        drawn.push_terminal(DrawnTerminal {
-            net: NetId(0),
-            x: 4,
-            y: 4,
-        })?;
+        let net = NetId(0);
+        drawn.push_terminal(DrawnTerminal { net, x: 4, y: 4 })?;
     }
-    Ok(drawn)
+    Ok(())
 }
 
 fn placed(
@@ -180,8 +181,8 @@ fn placed(
     }
 }
 
-/// The targets of these cells, each on a new die.
-fn targets_of(
+/// The targets over a base, with each cell on a new die.
+fn targets_over(
     rt: &impl Abort,
     alloc: Global,
     problem: &Problem,
@@ -191,6 +192,20 @@ fn targets_of(
     let base = placed(rt, alloc, problem, drawn)?;
     assert!(rt; problem.cells() as usize == dies.len());
     targets(alloc, problem, &base, dies)
+}
+
+/// The targets of these cells, each on a new die.
+fn targets_of(
+    rt: &impl Abort,
+    alloc: Global,
+    problem: &Problem,
+    cells: &[Standing],
+    is_cut: bool,
+    dies: &[Die],
+) -> Result<Vec<Point>, NoMemory> {
+    let mut drawn = Drawn::new(alloc);
+    draw(rt, &mut drawn, cells, is_cut)?;
+    targets_over(rt, alloc, problem, &drawn, dies)
 }
 
 #[test]
@@ -210,9 +225,8 @@ fn on_the_new_dies(rt: HostRuntime) -> Result<(), Fail> {
         cell_on(b"C2", Die::Bottom, 0, true),
     ];
     let problem = problem_of(&rt, rt.alloc(), top, bottom, &cells)?;
-    let drawn = drawn_of(&rt, rt.alloc(), &cells, true)?;
     let dies = [Die::Bottom, Die::Bottom];
-    let found = targets_of(&rt, rt.alloc(), &problem, &drawn, &dies)?;
+    let found = targets_of(&rt, rt.alloc(), &problem, &cells, true, &dies)?;
     let expected = [Point { x: 0, y: 0 }, Point { x: -1, y: -1 }];
     assert_eq!(&rt; found.as_slice(), expected.as_slice());
     Ok(())
@@ -233,9 +247,8 @@ fn medians_and_cells_without_nets(rt: HostRuntime) -> Result<(), Fail> {
         cell_on(b"Y", Die::Top, 40, true),
     ];
     let problem = problem_of(&rt, rt.alloc(), shape, shape, &cells)?;
-    let drawn = drawn_of(&rt, rt.alloc(), &cells, false)?;
     let dies = [Die::Top; 5];
-    let found = targets_of(&rt, rt.alloc(), &problem, &drawn, &dies)?;
+    let found = targets_of(&rt, rt.alloc(), &problem, &cells, false, &dies)?;
     for (target, x) in found.iter().zip(&[10, 0, 20, 30, 0]) {
         assert_eq!(&rt; *target, Point { x: *x, y: 0 });
     }

@@ -55,7 +55,7 @@ loop-conn-preserved c =
     simp to_z-of_z at c.joined-in-loop-conn.ensures.kept in
     let turned : pos 0 -ℤ at ≡ neg_ℤ at = omega (arith, ints) in
     let here : (turn : ℤ → ℤ) (least : Option Least) (cell : ℕ)
-        → with_pin (kept_for least cell) (not (nat_eq c.conn.result.cell.0 cell)) (turn at) ≡ with_pin (kept_for least cell) (is_other p cell k) (turn (along axis (point p base k))) =
+    → with_pin (kept_for least cell) (not (nat_eq c.conn.result.cell.0 cell)) (turn at) ≡ with_pin (kept_for least cell) (is_other p cell k) (turn (along axis (point p base k))) =
     λ turn least cell i. with_pin (kept_for least cell) (not (nat_eq (sym conn i).cell.0 cell)) (turn (c.pin_along-at.ensures.at i)) in
     let lows : IsKept (λ z. z) p base axis net (k ∷ left) c.loop-conn.low = subst (λ (l : List ℕ). IsKept (λ z. z) p base axis net l c.loop-conn.low) next c.loop-conn.invariant.low in
     let highs : IsKept neg_ℤ p base axis net (k ∷ left) c.loop-conn.high = subst (λ (l : List ℕ). IsKept neg_ℤ p base axis net l c.loop-conn.high) next c.loop-conn.invariant.high in

@@ -49,36 +49,36 @@ loop-conn-preserved c =
     c.without.ensures.ends ∙ ends_without_cell p base axis net cell (get_or c.args.nets.now net no_ends) (c.requires.nets.each net there)
     ∙ ap (λ (n : Conn). ends_of (others_at p base cell axis n.net.0)) (sym conn) in
     elim c.match-without.branch [
-      in-Some+in_ok-push+in_ok-push-2 w ↦
-        let found = w.in-Some.ends in
-        let off = w.offset_along-offset.result in
-        let is : ends_of (others_at p base cell axis (conn_at p k).net.0) ≡ Some found = sym ends ∙ w.in-Some.is in
-        let near : AreInRange found = w.in-Some.ensures.range in
-        let low_fits : FitsSigned w64 found.low = omega (arith, ints, near.low_least, near.low_most) in
-        let high_fits : FitsSigned w64 found.high = omega (arith, ints, near.high_least, near.high_most) in
-        let off_fits : FitsSigned w64 off = omega (arith, ints, w.offset_along-offset.ensures.range.0, w.offset_along-offset.ensures.range.1) in
-        let low : IsTargetPlace (found.low -ℤ off) =
-        (omega (arith, ints, near.low_least, w.offset_along-offset.ensures.range.1), omega (arith, ints, near.low_most, w.offset_along-offset.ensures.range.0)) in
-        let high : IsTargetPlace (found.high -ℤ off) =
-        (omega (arith, ints, near.high_least, w.offset_along-offset.ensures.range.1), omega (arith, ints, near.high_most, w.offset_along-offset.ensures.range.0)) in
-        let lower_fits : FitsSigned w64 (found.low -ℤ off) = omega (arith, ints, low.0, low.1) in
-        let upper_fits : FitsSigned w64 (found.high -ℤ off) = omega (arith, ints, high.0, high.1) in
-        let first : w.push.new.self.items ≡ c.loop-conn.breakpoints.items ++ (found.low -ℤ off) ∷ [] = simp to_z-of_z at w.in_ok-push.ensures.items in
-        let second : w.push-in-Some.new.self.items ≡ w.push.new.self.items ++ (found.high -ℤ off) ∷ [] = simp to_z-of_z at w.in_ok-push-2.ensures.items in
-        let both : c.match-without.breakpoints.items ≡ (c.loop-conn.breakpoints.items ++ (found.low -ℤ off) ∷ []) ++ (found.high -ℤ off) ∷ [] =
-        ap (λ v. v.items) w.breakpoints-is ∙ second ∙ ap (λ (l : List ℤ). l ++ (found.high -ℤ off) ∷ []) first in
-        record {
-          pushed = pushed_both p base cell die axis k left c.loop-conn.breakpoints.items c.match-without.breakpoints.items found off is (sym w.offset_along-offset.ensures.offset) both before;
-          range = subst (All IsTargetPlace) (sym both)
-              (All-push IsTargetPlace (c.loop-conn.breakpoints.items ++ (found.low -ℤ off) ∷ []) (found.high -ℤ off)
+      | in-Some+in_ok-push+in_ok-push-2 w ↦
+          let found = w.in-Some.ends in
+          let off = w.offset_along-offset.result in
+          let is : ends_of (others_at p base cell axis (conn_at p k).net.0) ≡ Some found = sym ends ∙ w.in-Some.is in
+          let near : AreInRange found = w.in-Some.ensures.range in
+          let low_fits : FitsSigned w64 found.low = omega (arith, ints, near.low_least, near.low_most) in
+          let high_fits : FitsSigned w64 found.high = omega (arith, ints, near.high_least, near.high_most) in
+          let off_fits : FitsSigned w64 off = omega (arith, ints, w.offset_along-offset.ensures.range.0, w.offset_along-offset.ensures.range.1) in
+          let low : IsTargetPlace (found.low -ℤ off) =
+          (omega (arith, ints, near.low_least, w.offset_along-offset.ensures.range.1), omega (arith, ints, near.low_most, w.offset_along-offset.ensures.range.0)) in
+          let high : IsTargetPlace (found.high -ℤ off) =
+          (omega (arith, ints, near.high_least, w.offset_along-offset.ensures.range.1), omega (arith, ints, near.high_most, w.offset_along-offset.ensures.range.0)) in
+          let lower_fits : FitsSigned w64 (found.low -ℤ off) = omega (arith, ints, low.0, low.1) in
+          let upper_fits : FitsSigned w64 (found.high -ℤ off) = omega (arith, ints, high.0, high.1) in
+          let first : w.push.new.self.items ≡ c.loop-conn.breakpoints.items ++ (found.low -ℤ off) ∷ [] = simp to_z-of_z at w.in_ok-push.ensures.items in
+          let second : w.push-in-Some.new.self.items ≡ w.push.new.self.items ++ (found.high -ℤ off) ∷ [] = simp to_z-of_z at w.in_ok-push-2.ensures.items in
+          let both : c.match-without.breakpoints.items ≡ (c.loop-conn.breakpoints.items ++ (found.low -ℤ off) ∷ []) ++ (found.high -ℤ off) ∷ [] =
+          ap (λ v. v.items) w.breakpoints-is ∙ second ∙ ap (λ (l : List ℤ). l ++ (found.high -ℤ off) ∷ []) first in
+          record {
+            pushed = pushed_both p base cell die axis k left c.loop-conn.breakpoints.items c.match-without.breakpoints.items found off is (sym w.offset_along-offset.ensures.offset) both before;
+            range = subst (All IsTargetPlace) (sym both)
+                (All-push IsTargetPlace (c.loop-conn.breakpoints.items ++ (found.low -ℤ off) ∷ []) (found.high -ℤ off)
                 (All-push IsTargetPlace c.loop-conn.breakpoints.items (found.low -ℤ off) c.loop-conn.invariant.range low) high);
-        }
-    | in_default w ↦
-        let same : c.match-without.breakpoints.items ≡ c.loop-conn.breakpoints.items = ap (λ v. v.items) w.breakpoints-is in
-        record {
-          pushed = subst (ArePushed p base cell die axis left) (sym same) (pushed_same p base cell die axis k left c.loop-conn.breakpoints.items (sym ends ∙ w.in_default.is) before);
-          range = subst (All IsTargetPlace) (sym same) c.loop-conn.invariant.range;
-        }
+          }
+      | in_default w ↦
+          let same : c.match-without.breakpoints.items ≡ c.loop-conn.breakpoints.items = ap (λ v. v.items) w.breakpoints-is in
+          record {
+            pushed = subst (ArePushed p base cell die axis left) (sym same) (pushed_same p base cell die axis k left c.loop-conn.breakpoints.items (sym ends ∙ w.in_default.is) before);
+            range = subst (All IsTargetPlace) (sym same) c.loop-conn.invariant.range;
+          }
     ]
 
 pub returns-clause-all : goal.returns-clause-all
