@@ -1,12 +1,12 @@
 -- The steps of a scan, over what the code reads.
-use Rattle.std.proofs.Common.{◌≡◌, ◌≢◌, ℕ, ◌+◌, ◌-◌, ◌*◌, ◌<◌, ◌≤◌, inl, inr, List, length, get_or, min, sym, ap, ◌∙◌, arith}
+use Rattle.std.proofs.Common.{◌≡◌, ◌≢◌, ℕ, ◌+◌, ◌-◌, ◌*◌, ◌<◌, ◌≤◌, inl, inr, List, length, get_or, min, max, sym, ap, ◌∙◌, arith}
 use Rattle.std.specs.Prelude.{slice_index, ◌^◌}
 use Rattle.std.proofs.lemmas.Bool.{cases_lt}
 use Rattle.std.proofs.lemmas.Grind.{get_or_default_zero}
 use Rattle.fp_match.specs.declared.labels.Labels.{Labels}
 use Rattle.fp_match.specs.declared.matching.Matching.{Matching}
 use Rattle.fp_match.specs.declared.scan.Turn.{Turn}
-use Rattle.fp_match.specs.Prices.{IsWithinLimits, IsFloor}
+use Rattle.fp_match.specs.Prices.{IsWithinLimits, IsFloor, IsNear}
 use Rattle.fp_match.specs.Owners.{unused}
 use Rattle.fp_match.specs.Search.{far, label_of, row_at, owner_of, column_of, price_of, HasRoom, Fits, IsMatching, least_of, IsTree, Grown, Scanned, StripeCovered, StripeScanned, IsOffer, Offered, IsTurn, IsLowered, IsEntered}
 use Rattle.fp_match.proofs.Tree.{least_held, least_start, place_for, tree_lowered, tree_entered, tree_sunk, tree_same, grown_refl, covered_grown, covered_far, offer_of, turn_low, scanned_more}
@@ -225,11 +225,34 @@ turn_held cost columns row m l current depth column paid price tree matched fits
       least_is = rw current_is (omega (arith, least));
     }
 
-pub first_covered : (cost : ℕ → ℕ → ℕ) (columns width row : ℕ) (m : Matching) (a b : Labels) (first w to : ℕ) → w ≡ width
-    → to ≡ min (first * w + width) columns → Scanned cost columns row m a b (first * w) to → StripeCovered cost columns width row m b first
-first_covered cost columns width row m a b first w to same end scanned =
-    let start : first * w ≡ first * width = ap (λ x. first * x) same in
-    λ s le lt. scanned.covered s (omega arith) (omega arith)
+-- a range cut down to the columns of the stripe
+pub near_clipped : (cost : ℕ → ℕ) (columns width stripe limit start end first last : ℕ) → IsNear cost columns width stripe limit start end
+    → first ≤ max start (stripe * width) → min end (min (stripe * width + width) columns) ≤ last
+    → IsNear cost columns width stripe limit first last
+near_clipped cost columns width stripe limit start end first last near low high = record {
+  before = λ s le lt within under. near.before s le lt within (omega arith);
+  after = λ s le lt within over. near.after s le lt within (omega arith);
+}
+
+-- a stripe of which the columns near the row were looked at
+pub near_scanned : (cost : ℕ → ℕ → ℕ) (columns width row : ℕ) (m : Matching) (a b : Labels) (t : Turn) (stripe limit start end : ℕ)
+    → IsTurn cost row m a t → IsNear (cost t.row) columns width stripe limit start end → limit + t.depth ≡ a.level + t.least
+    → Scanned cost columns row m a b start end → StripeScanned cost columns width row m a b stripe
+near_scanned cost columns width row m a b t stripe limit start end turn near limit_is scanned = record {
+  tree = scanned.tree;
+  grown = scanned.grown;
+  covered = λ s le lt. elim (cases_lt s start) [
+    | inl under ↦
+        let beyond : limit ≤ cost t.row s = near.before s le (omega arith) (omega arith) under in
+        covered_grown cost row m a b s scanned.grown (covered_far cost row m a t s 0 turn (omega arith) (omega arith))
+    | inr from ↦ elim (cases_lt s end) [
+      | inl inside ↦ scanned.covered s from inside
+      | inr over ↦
+          let beyond : limit ≤ cost t.row s = near.after s le (omega arith) (omega arith) over in
+          covered_grown cost row m a b s scanned.grown (covered_far cost row m a t s 0 turn (omega arith) (omega arith))
+    ]
+  ];
+}
 
 pub swept_end : (cost : ℕ → ℕ → ℕ) (columns width row : ℕ) (m : Matching) (a b : Labels) (j count : ℕ) → j ≡ count → columns ≤ count * width
     → Scanned cost columns row m a b 0 (min (j * width) columns) → Scanned cost columns row m a b 0 columns

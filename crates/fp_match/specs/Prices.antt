@@ -56,6 +56,11 @@ abbrev pub IsFloor : (ℕ → ℕ) → ℕ → ℕ → ℕ → ℕ → Type 0
 IsFloor cost columns width stripe floor =
     (s : ℕ) → stripe * width ≤ s → s < stripe * width + width → s < columns → floor ≤ cost s
 
+-- the columns of the stripe outside the range cost at least the limit
+pub record IsNear (cost : ℕ → ℕ) (columns width stripe limit start end : ℕ) : Type 0 where
+  pub before : (s : ℕ) → stripe * width ≤ s → s < stripe * width + width → s < columns → s < start → limit ≤ cost s
+  pub after : (s : ℕ) → stripe * width ≤ s → s < stripe * width + width → s < columns → end ≤ s → limit ≤ cost s
+
 -- a choice among so many columns
 pub record Chosen : Type 0 where
   pub columns : ℕ

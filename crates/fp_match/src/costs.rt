@@ -1,13 +1,15 @@
 //! What an assignment costs.
 
 ghost use Rattle.std.specs.Prelude.{◌≡◌, ◌<◌, ◌≤◌, ◌*◌, ℕ};
-ghost use Rattle.fp_match.specs.Prices.{IsWithinLimits, IsFloor};
+ghost use Rattle.fp_match.specs.Prices.{IsWithinLimits, IsFloor, IsNear};
+
+use std::ops::Range;
 
 /// Rows that are each to have a column of their own, and what each column costs each row. There are
 /// at most 2^18 rows and 2^20 columns, and a cost is at most 2^36.
 ///
 /// The columns lie in stripes of equal width, for which a row may have a floor under its costs, so
-/// that columns far away need not be read one by one.
+/// that columns far away need not be read one by one, and a range that holds the near ones.
 pub trait Costs {
     ghost row_count: { Self → ℕ };
 
@@ -46,5 +48,15 @@ pub trait Costs {
         ensures { IsFloor (cost_of self.now row) (column_count self.now) (stripe_width self.now) stripe result }
     {
         0
+    }
+
+    /// A range that holds all columns of the stripe that cost the row less than the limit. It may
+    /// hold others, and go beyond the stripe.
+    fn near(&self, row: u32, stripe: u32, limit: u64) -> Range<u32>
+        requires row_in { row < row_count self.now }
+        requires stripe_in { stripe * stripe_width self.now < column_count self.now }
+        ensures { IsNear (cost_of self.now row) (column_count self.now) (stripe_width self.now) stripe limit result.start result.end }
+    {
+        0..self.columns()
     }
 }

@@ -7,7 +7,7 @@ use crate::choice::UNUSED;
 use crate::costs::Costs;
 use crate::labels::{FAR, Labels};
 use crate::matching::Matching;
-use crate::stripes::{stripe_count, stripe_end};
+use crate::stripes::{near_columns, stripe_count};
 
 /// The row that was settled last, how far it lies, and the cost and price of its column, 0 where it
 /// has none.
@@ -98,6 +98,29 @@ fn scan_columns<C: Costs>(
     }
 }
 
+/// Looks at the columns of a stripe that may lie within the level.
+fn scan_near<C: Costs>(
+    costs: &C,
+    matching: &Matching,
+    labels: &mut Labels,
+    row: u32,
+    turn: Turn,
+    stripe: u32,
+)
+    requires tree { IsTree (C.cost_of costs.now) (C.column_count costs.now) row matching.now labels.old }
+    requires matched { IsMatching (C.cost_of costs.now) (C.column_count costs.now) row matching.now }
+    requires fits { Fits (C.column_count costs.now) row matching.now }
+    requires row_in { row < C.row_count costs.now }
+    requires turn { IsTurn (C.cost_of costs.now) row matching.now labels.old turn }
+    requires stripe_in { stripe * C.stripe_width costs.now < C.column_count costs.now }
+    ensures { StripeScanned (C.cost_of costs.now) (C.column_count costs.now) (C.stripe_width costs.now) row matching.now labels.old labels.new stripe }
+{
+    let _limits = costs.rows();
+    let limit = labels.level + turn.least - turn.depth;
+    let near = near_columns(costs, turn.row, stripe, limit);
+    scan_columns(costs, matching, labels, row, turn, near.start, near.end);
+}
+
 /// Looks at the columns of a stripe, unless it is the one that was looked at first, or its floor
 /// shows that it holds nothing within the level.
 fn scan_stripe<C: Costs>(
@@ -119,15 +142,14 @@ fn scan_stripe<C: Costs>(
     ensures { StripeScanned (C.cost_of costs.now) (C.column_count costs.now) (C.stripe_width costs.now) row matching.now labels.old labels.new stripe }
 {
     let _limits = costs.rows();
+    let _width = costs.stripe();
     if stripe == first {
         return;
     }
-    let from = stripe * costs.stripe();
     if labels.level + turn.least <= turn.depth + costs.floor(turn.row, stripe) {
         return;
     }
-    let to = stripe_end(costs, from);
-    scan_columns(costs, matching, labels, row, turn, from, to);
+    scan_near(costs, matching, labels, row, turn, stripe);
 }
 
 /// The stripe of least floor for the row.
@@ -188,9 +210,7 @@ pub(crate) fn scan_row<C: Costs>(costs: &C, matching: &Matching, labels: &mut La
     let _limits = costs.rows();
     let turn = turn_of(costs, matching, labels, row);
     let first = nearest_stripe(costs, turn.row);
-    let from = first * costs.stripe();
-    let to = stripe_end(costs, from);
-    scan_columns(costs, matching, labels, row, turn, from, to);
+    scan_near(costs, matching, labels, row, turn, first);
     for stripe in 0..stripe_count(costs) {
         scan_stripe(costs, matching, labels, row, turn, first, stripe);
     }

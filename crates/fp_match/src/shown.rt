@@ -6,7 +6,7 @@ ghost use Rattle.fp_match.specs.Owners.{unused};
 
 use crate::choice::{Choice, UNUSED};
 use crate::costs::Costs;
-use crate::stripes::{stripe_count, stripe_end};
+use crate::stripes::{near_columns, stripe_count};
 
 /// Whether unused columns have price 0 and, for every row, the cost and price of its column are at
 /// most those of every column. Then no choice of distinct columns costs less.
@@ -61,12 +61,11 @@ fn is_best<C: Costs>(costs: &C, row: u32, column: u32, prices: &[u64]) -> bool
 {
     let _limits = costs.rows();
     let paid = costs.cost(row, column) + prices[column as usize];
-    let width = costs.stripe();
+    let _width = costs.stripe();
     for stripe in 0..stripe_count(costs) {
         if paid > costs.floor(row, stripe) {
-            let from = stripe * width;
-            let to = stripe_end(costs, from);
-            if !costs_at_least(costs, row, from, to, prices, paid) {
+            let near = near_columns(costs, row, stripe, paid);
+            if !costs_at_least(costs, row, near.start, near.end, prices, paid) {
                 return false;
             }
         }

@@ -1,10 +1,11 @@
 //! What no clause says: that memory is enough, and totals that another method gives.
 
-ghost use Rattle.std.specs.Prelude.{◌≡◌, ◌<◌, ◌≤◌, ◌+◌, ◌*◌, ◌^◌, min, max, length, slice_index};
+ghost use Rattle.std.specs.Prelude.{◌≡◌, ◌<◌, ◌≤◌, ◌+◌, ◌-◌, ◌*◌, ◌^◌, min, max, length, slice_index};
 
 use crate::{Choice, ChoiceFault, Costs, Matcher, prices_shown};
 use fp_base::NoMemory;
 use std::alloc::Global;
+use std::ops::Range;
 use std::test::Fail;
 
 const MOST: u64 = 1 << 36;
@@ -46,6 +47,55 @@ impl Costs for Table<'_> {
 
     fn stripe(&self) -> u32 {
         self.stripe.max(1) as u32
+    }
+}
+
+/// Rows that all want one column of a line: a cost is how far away a column lies.
+#[derive(Clone, Copy)]
+struct Crowd {
+    wanted: u8,
+    rows: u8,
+    columns: u8,
+}
+
+impl Costs for Crowd {
+    ghost row_count = { λ c. c.rows };
+
+    ghost column_count = { λ c. c.columns };
+
+    ghost cost_of = { λ c _ s. (c.wanted - s) + (s - c.wanted) };
+
+    ghost stripe_width = { λ _. 8 };
+
+    fn rows(&self) -> u32 {
+        let _columns = self.columns as u32;
+        let _wanted = self.wanted as u32;
+        self.rows as u32
+    }
+
+    fn columns(&self) -> u32 {
+        self.columns as u32
+    }
+
+    fn cost(&self, _row: u32, column: u32) -> u64 {
+        let wanted = self.wanted as u32;
+        (wanted.saturating_sub(column) + column.saturating_sub(wanted)) as u64
+    }
+
+    fn stripe(&self) -> u32 {
+        8
+    }
+
+    fn floor(&self, _row: u32, stripe: u32) -> u64 {
+        let wanted = self.wanted as u32;
+        let first = stripe * 8;
+        (first.saturating_sub(wanted) + wanted.saturating_sub(first + 7)) as u64
+    }
+
+    fn near(&self, _row: u32, _stripe: u32, limit: u64) -> Range<u32> {
+        let wanted = self.wanted as u32;
+        let reach = limit.min(256) as u32;
+        (wanted + 1).saturating_sub(reach)..wanted + reach
     }
 }
 
@@ -188,6 +238,30 @@ fn weights(rt: HostRuntime) -> Result<(), Fail> {
             stripe,
         };
         let (total, _, _) = solution(rt.alloc(), &table)?;
+        assert_eq!(rt; total, want);
+    }
+    Ok(())
+}
+
+/// Many rows want one column: then they take the columns that lie nearest to it, whichever each takes.
+#[test]
+fn one_column_is_wanted(rt: HostRuntime) -> Result<(), Fail> {
+    for wanted in [0, 70, 229] {
+        let crowd = Crowd {
+            wanted,
+            rows: 200,
+            columns: 230,
+        };
+        let mut far = Vec::new(rt.alloc());
+        for column in 0..230 {
+            far.push(crowd.cost(0, column))?;
+        }
+        far.sort()?;
+        let mut want = 0u64;
+        for cost in far.iter().take(200) {
+            want = want.wrapping_add(*cost);
+        }
+        let (total, _, _) = solution(rt.alloc(), &crowd)?;
         assert_eq!(rt; total, want);
     }
     Ok(())

@@ -1,12 +1,12 @@
 use Rattle.std.proofs.Common.{arith}
 use Rattle.fp_match.proofs.Tree.{turn_grown}
-use Rattle.fp_match.proofs.Steps.{swept_start, swept_step, stripe_grown, first_covered, swept_end}
+use Rattle.fp_match.proofs.Steps.{swept_start, swept_step, stripe_grown, swept_end}
 use Rattle.fp_match.proofs.scan.scan_row.Goals as goal
 
 pub loop-stripe-init : goal.loop-stripe-init
 loop-stripe-init g c = (
-  swept_start _ _ _ _ _ _ _ _ _ c.scan_columns.ensures,
-  first_covered _ _ _ _ _ _ _ _ _ _ c.stripe.ensures.value c.stripe_end-to.ensures c.scan_columns.ensures,
+  swept_start _ _ _ _ _ _ _ _ _ c.scan_near.ensures,
+  c.scan_near.ensures.covered,
 )
 
 pub scan_stripe-requires-clause-turn : goal.scan_stripe-requires-clause-turn

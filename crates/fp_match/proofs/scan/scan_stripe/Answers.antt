@@ -15,5 +15,5 @@ overflow_add-turn g c =
     omega (
       arith,
       floor_bound _ _ _ _ _ _ _ _ _ _ c.rows-limits.ensures.limits c.requires.tree c.requires.turn c.requires.row_in
-          (omega (arith, c.stripe.ensures.positive, c.stripe.ensures.value)) c.requires.stripe_in c.floor.ensures,
+          (omega (arith, c.stripe-width.ensures.positive, c.stripe-width.ensures.value)) c.requires.stripe_in c.floor.ensures,
     )
