@@ -59,7 +59,7 @@ sound_more p die taken cell segment sound below open_is = record {
     by number inside (inl e) =
         let added : (if nat_eq segment number then width p cell die else 0) ≡ width p cell die = ap (λ (b : Bool). if b then width p cell die else 0) (eq-eqb segment number e) in
         let room : pos (taken_width p die number taken + width p cell die) ≤ℤ (segment_at p.plan die number).length =
-            subst (λ n. pos (taken_width p die n taken + width p cell die) ≤ℤ (segment_at p.plan die n).length) e holds in
+        subst (λ n. pos (taken_width p die n taken + width p cell die) ≤ℤ (segment_at p.plan die n).length) e holds in
         omega (arith, ints, room, more number, added)
     by number inside (inr apart) =
         let test : nat_eq segment number ≡ false = grind (arith, nat_tests) in
@@ -98,8 +98,8 @@ all_sound p targets die (cell ∷ cells) before taken sound e =
     by : (o : Option ℕ) → IsFirstLeast (is_open p die before cell) (λ segment. reach_cost (segment_at p.plan die segment) (width p cell die) (point_at targets cell)) 0 (length (segments p.plan die)) o
         → or_no_row cell o (λ segment. taken_by p die targets (before ++ record { cell = cell; segment = segment } ∷ []) cells) ≡ Ok taken
         → ((segment : ℕ) → AreSound p die (before ++ record { cell = cell; segment = segment } ∷ [])
-            → taken_by p die targets (before ++ record { cell = cell; segment = segment } ∷ []) cells ≡ Ok taken
-            → AreFrom p die (before ++ record { cell = cell; segment = segment } ∷ []) cells taken)
+        → taken_by p die targets (before ++ record { cell = cell; segment = segment } ∷ []) cells ≡ Ok taken
+        → AreFrom p die (before ++ record { cell = cell; segment = segment } ∷ []) cells taken)
         → AreFrom p die before (cell ∷ cells) taken
     by None is e rest = absurd (let nothing : stuck cell ≡ gave taken = e in cc)
     by (Some segment) is e rest = joined segment (rest segment (sound_more p die before cell segment sound is.below is.passing) e)
@@ -273,8 +273,8 @@ lane_fits : (p : Netlist) (dies : List Die) (targets : List Point) (die : Die) (
 unfolding taken_width
 lane_fits p dies targets die taken segment is below =
     let wide = ap (lane_width p die) (lane_at p targets die taken segment below)
-        ∙ sum_by-map (λ (cell : CellId). width p cell.0 die) id_of (in_order targets taken segment)
-        ∙ in_order_sum targets taken segment (λ cell. width p cell die) in
+    ∙ sum_by-map (λ (cell : CellId). width p cell.0 die) id_of (in_order targets taken segment)
+    ∙ in_order_sum targets taken segment (λ cell. width p cell die) in
     omega (arith, ints, is.sound.fits segment below, wide)
 
 -- both dies
@@ -320,7 +320,7 @@ hold_all p dies targets top bottom on_top on_bottom = record {
     one_rank : (a b : Die) (i j r s : ℕ) (cell : CellId) → a ≡ b → i ≡ j → Stands p dies targets a (both top bottom a) i r cell → Stands p dies targets b (both top bottom b) j s cell → r ≡ s
     one_rank a b i j r s cell dies_same segments_same one two =
         let same_lane : in_order targets (both top bottom b) j ≡ in_order targets (both top bottom a) i =
-            ap (λ d. in_order targets (both top bottom d) j) (sym dies_same) ∙ ap (in_order targets (both top bottom a)) (sym segments_same) in
+        ap (λ d. in_order targets (both top bottom d) j) (sym dies_same) ∙ ap (in_order targets (both top bottom a)) (sym segments_same) in
         one_place cell.0 (in_order targets (both top bottom a) i) r s one.few one.entry.inside
         (omega (arith, two.entry.inside, ap length same_lane)) one.entry.is (sym (ap (λ (l : List ℕ). get_or l s 0) same_lane) ∙ two.entry.is)
 

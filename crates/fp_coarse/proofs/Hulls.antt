@@ -101,10 +101,16 @@ can_aim segments free most hull width target aim are rooms many fewer is some sm
     by number below room =
         let holds : width ≤ℤ get_or free number (pos 0) = grind (arith, ints) in
         let inside : (at segments number).start ≤ℤ (((at segments number).start +ℤ (at segments number).length) -ℤ width) =
-            omega (arith, ints, holds, fewer.high number below) in
+        omega (arith, ints, holds, fewer.high number below) in
         let end : (((at segments number).start +ℤ (at segments number).length) -ℤ width) ≤ℤ (hull.high -ℤ width) = omega (arith, ints, is.to number below) in
-        omega (arith, side_is, nearer hull.low (hull.high -ℤ width) (at segments number).start (((at segments number).start +ℤ (at segments number).length) -ℤ width) target.x
-            (is.from number below) end inside, ap (λ w. reach_to (at segments number) w aim.target.x) width_is, ap (λ (p : Point). reach_to (at segments number) width p.x) target_is)
+        omega (
+          arith,
+          side_is,
+          nearer hull.low (hull.high -ℤ width) (at segments number).start (((at segments number).start +ℤ (at segments number).length) -ℤ width) target.x
+              (is.from number below) end inside,
+          ap (λ w. reach_to (at segments number) w aim.target.x) width_is,
+          ap (λ (p : Point). reach_to (at segments number) width p.x) target_is,
+        )
 
 -- a number of 64 bits is itself
 pub width_same : (z : ℤ) → pos 1 ≤ℤ z → z ≤ℤ pos (2 ^ 30) → to_z w64 (of_z w64 z) ≡ z

@@ -125,7 +125,6 @@ hold_more count entries entry lanes new is below new_is = record {
   each = λ number inside. ap (λ (l : LaneList). get_or l number []) new_is ∙ by number inside (cases_eq entry.2 number);
 }
   where
-
     by : (number : ℕ) → number < count → ((entry.2 ≡ number) ⊎ (entry.2 ≡ number → ⊥))
         → get_or (set lanes entry.2 (get_or lanes entry.2 [] ++ record { 0 = entry.1 } ∷ [])) number [] ≡ map cell_of (filter (is_on number) (entries ++ entry ∷ []))
     by number inside (inl same) =

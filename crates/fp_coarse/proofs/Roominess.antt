@@ -27,13 +27,13 @@ rooms_taken free most left bounds segment width are below some left_is is = reco
     by number inside (inl same) =
         let there : segment / 64 < length most = bound_there free most segment are below in
         let bound_is : get_or bounds (number / 64) (pos 0) ≡ is.bound =
-            ap (λ (b : List ℤ). get_or b (number / 64) (pos 0)) is.bounds_are ∙ ap (λ n. get_or (set most (segment / 64) is.bound) n (pos 0)) same
-            ∙ get_or-set_same most (segment / 64) is.bound (pos 0) there in
+        ap (λ (b : List ℤ). get_or b (number / 64) (pos 0)) is.bounds_are ∙ ap (λ n. get_or (set most (segment / 64) is.bound) n (pos 0)) same
+        ∙ get_or-set_same most (segment / 64) is.bound (pos 0) there in
         omega (arith, ints, is.above number inside same, bound_is)
     by number inside (inr apart) =
         let other : number ≡ segment → ⊥ = λ e. apart (ap (λ n. n / 64) e) in
         let free_is : get_or left number (pos 0) ≡ get_or free number (pos 0) =
-            ap (λ (l : List ℤ). get_or l number (pos 0)) left_is ∙ get_or-set_other free segment number (get_or free segment (pos 0) -ℤ width) (pos 0) other in
+        ap (λ (l : List ℤ). get_or l number (pos 0)) left_is ∙ get_or-set_other free segment number (get_or free segment (pos 0) -ℤ width) (pos 0) other in
         let bound_is : get_or bounds (number / 64) (pos 0) ≡ get_or most (number / 64) (pos 0) =
-            ap (λ (b : List ℤ). get_or b (number / 64) (pos 0)) is.bounds_are ∙ get_or-set_other most (segment / 64) (number / 64) is.bound (pos 0) apart in
+        ap (λ (b : List ℤ). get_or b (number / 64) (pos 0)) is.bounds_are ∙ get_or-set_other most (segment / 64) (number / 64) is.bound (pos 0) apart in
         omega (arith, ints, are.above number (omega (arith, inside, long)), free_is, bound_is)

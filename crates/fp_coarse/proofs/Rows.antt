@@ -39,11 +39,11 @@ pub rows_are : (plan : Plan) → IsPlan plan → (die : Die) → AreSegments (se
 rows_are plan is die = record {
   few = few_segments plan is die;
   each = λ number below.
-    let row : number < (spec_of plan die).repeat = omega (arith, below, length-segments plan die) in
-    subst IsSegment (sym (row_is plan die number row)) (row_in (length plan.book.techs) (spec_of plan die) number (spec_in plan is die) row);
+      let row : number < (spec_of plan die).repeat = omega (arith, below, length-segments plan die) in
+      subst IsSegment (sym (row_is plan die number row)) (row_in (length plan.book.techs) (spec_of plan die) number (spec_in plan is die) row);
   rising = λ i j le below.
-    let last : j < (spec_of plan die).repeat = omega (arith, below, length-segments plan die) in
-    let first_is = ap (λ (s : Segment). s.y) (row_is plan die i (omega (arith, le, last))) in
-    let last_is = ap (λ (s : Segment). s.y) (row_is plan die j last) in
-    omega (arith, ints, first_is, last_is, rows_rise (spec_of plan die) i j le);
+      let last : j < (spec_of plan die).repeat = omega (arith, below, length-segments plan die) in
+      let first_is = ap (λ (s : Segment). s.y) (row_is plan die i (omega (arith, le, last))) in
+      let last_is = ap (λ (s : Segment). s.y) (row_is plan die j last) in
+      omega (arith, ints, first_is, last_is, rows_rise (spec_of plan die) i j le);
 }

@@ -74,7 +74,7 @@ left_first p die free are is = record {
     by number (inl below) = omega (arith, ints, free_at number below, (are.each number below).some)
     by number (inr past) =
         let none : get_or free number (pos 0) ≡ pos 0 =
-            get_or-eq_default free (pos 0) (omega (arith, past, ap length is ∙ length-map (segments p.plan die) (λ segment. segment.length))) in
+        get_or-eq_default free (pos 0) (omega (arith, past, ap length is ∙ length-map (segments p.plan die) (λ segment. segment.length))) in
         omega (arith, ints, none)
 
 -- and after a cell took a segment
@@ -110,7 +110,7 @@ left_more p die taken free new cell segment is below room new_is = record {
     left number inside (inl same) =
         let added : (if nat_eq segment number then width p cell die else 0) ≡ width p cell die = ap (λ (b : Bool). if b then width p cell die else 0) (eq-eqb segment number same) in
         let new_here : get_or new number (pos 0) ≡ get_or free number (pos 0) -ℤ pos (width p cell die) =
-            subst (λ n. get_or new n (pos 0) ≡ get_or free n (pos 0) -ℤ pos (width p cell die)) same here in
+        subst (λ n. get_or new n (pos 0) ≡ get_or free n (pos 0) -ℤ pos (width p cell die)) same here in
         omega (arith, ints, new_here, is.left number inside, more number, added)
     left number inside (inr apart) =
         let test : nat_eq segment number ≡ false = grind (arith, nat_tests) in

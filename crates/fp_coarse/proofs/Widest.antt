@@ -66,8 +66,8 @@ cells_below : (p : Netlist) (dies : List Die) (die : Die) → All (λ cell. cell
 cells_below p dies die =
     All-filter (λ cell. same_die (die_at dies cell) die) (λ cell. cell < length p.cells) (range_with_len 0 (length p.cells))
     (All-from_get_or (λ cell. cell < length p.cells) (range_with_len 0 (length p.cells)) 0 (λ i below.
-        let inside : i < length p.cells = omega (arith, below, length-range_with_len 0 (length p.cells)) in
-        omega (arith, get_or-range_with_len 0 (length p.cells) i 0 inside, inside)))
+    let inside : i < length p.cells = omega (arith, below, length-range_with_len 0 (length p.cells)) in
+    omega (arith, get_or-range_with_len 0 (length p.cells) i 0 inside, inside)))
 
 pub widest_within : (p : Netlist) (dies : List Die) (die : Die) → All (λ cell. cell < length p.cells) (widest_first p dies die)
 widest_within p dies die = sort_all (λ cell. cell < length p.cells) (narrowness p die) (cells_on p dies die) (cells_below p dies die)

@@ -1,6 +1,8 @@
 //! What no clause says: that memory is enough, and that the clauses mean what was meant.
 
-ghost use Rattle.std.specs.Prelude.{◌≡◌, ◌≤◌, length};
+ghost use Rattle.std.specs.Prelude.{◌≡◌, ◌≤◌, ◌<◌, length};
+ghost use Rattle.fp_place.specs.Areas.{fits};
+ghost use Rattle.fp_coarse.specs.Nearest.{IsNearPoint};
 
 use crate::{Picked, pick};
 use fp_base::{Bottom, CellId, Die, LibId, NoMemory, Point, SegId, TechId};
@@ -81,25 +83,77 @@ fn small_problem(rt: &impl Abort, alloc: Global, length: u32, repeat: u32) -> Re
     Ok(builder.finish()?)
 }
 
-/// Both cells on the bottom die, with targets.
+/// Whether a cell is at most as high as a die's rows.
+fn fits(problem: &Problem, cell: CellId, die: Die) -> bool
+    requires { cell.0 < length problem.now.cells }
+    ensures { result ≡ fits problem.now cell.0 die }
+{
+    let rows = problem.dies().spec(die).height;
+    problem.height(cell, die) <= i64::from(rows)
+}
+
+/// A target.
+fn near(x: i32, y: i32) -> Point
+    ensures { IsNearPoint result }
+{
+    Point {
+        x: i64::from(x),
+        y: i64::from(y),
+    }
+}
+
+/// The pick of both cells on the bottom die, with these targets.
 fn pick_bottom(
     rt: &impl Abort,
     alloc: Global,
     problem: &Problem,
-    targets: [Point; 2],
-) -> Result<Picked, NoMemory> {
+    first: Point,
+    second: Point,
+) -> Result<Picked, NoMemory>
+    requires first { IsNearPoint first }
+    requires second { IsNearPoint second }
+{
     assert!(rt; problem.cells() == 2);
-    for cell in 0..2 {
-        assert!(rt; problem.height(CellId(cell), Die::Bottom) == 10);
-    }
-    pick(alloc, problem, &[Die::Bottom, Die::Bottom], &targets)
+    assert!(rt; fits(problem, C1, Die::Bottom));
+    assert!(rt; fits(problem, C2, Die::Bottom));
+    pick(
+        alloc,
+        problem,
+        &[Die::Bottom, Die::Bottom],
+        &[first, second],
+    )
+}
+
+/// The same over so many rows of a length.
+fn pick_on_rows(
+    rt: &impl Abort,
+    alloc: Global,
+    length: u32,
+    repeat: u32,
+    targets: [(i32, i32); 2],
+) -> Result<Picked, Fail>
+    requires some { 1 ≤ length }
+    requires small { length ≤ 20 }
+    requires rows { 1 ≤ repeat }
+    requires few { repeat ≤ 4 }
+{
+    let problem = small_problem(rt, alloc, length, repeat)?;
+    let [first, second] = targets;
+    let picked = pick_bottom(
+        rt,
+        alloc,
+        &problem,
+        near(first.0, first.1),
+        near(second.0, second.1),
+    )?;
+    Ok(picked)
 }
 
 /// The lanes of the bottom die hold these cells.
 fn expect_lanes(rt: &impl Abort, lanes: &Lanes<Bottom>, expected: &[&[CellId]]) {
     assert!(rt; lanes.len() == expected.len());
     for (segment, cells) in expected.iter().enumerate() {
-        assert!(rt; segment < lanes.len());
+        assert!(rt; segment < 4 && segment < lanes.len());
         assert!(rt; lanes.lane(SegId::new(segment as u32)) == *cells);
     }
 }
@@ -111,47 +165,48 @@ fn expect_rows(rt: &impl Abort, picked: &Picked, expected: &[&[CellId]]) {
     }
 }
 
+fn expect_no_row(rt: &impl Abort, picked: &Picked, expected: CellId) {
+    match picked {
+        Picked::Rows { .. } => assert!(rt; false, "a cell finds no row"),
+        Picked::NoRow(cell) => assert!(rt; *cell == expected),
+    }
+}
+
 const C1: CellId = CellId(0);
 
 const C2: CellId = CellId(1);
 
-fn point(x: i64, y: i64) -> Point {
-    Point { x, y }
-}
-
 #[test]
 fn full_rows(rt: HostRuntime) -> Result<(), Fail> {
-    let problem = small_problem(&rt, rt.alloc(), 8, 1)?;
-    match pick_bottom(&rt, rt.alloc(), &problem, [point(0, 5), point(0, 5)])? {
-        Picked::NoRow(cell) => assert!(&rt; cell == C2),
-        Picked::Rows { .. } => assert!(&rt; false, "the second cell finds no row"),
-    }
+    let picked = pick_on_rows(&rt, rt.alloc(), 8, 1, [(0, 5), (0, 5)])?;
+    expect_no_row(&rt, &picked, C2);
     Ok(())
 }
 
 #[test]
 fn two_rows_as_near(rt: HostRuntime) -> Result<(), Fail> {
-    let problem = small_problem(&rt, rt.alloc(), 20, 2)?;
-    let picked = pick_bottom(&rt, rt.alloc(), &problem, [point(0, 5), point(0, 5)])?;
+    let picked = pick_on_rows(&rt, rt.alloc(), 20, 2, [(0, 5), (0, 5)])?;
     expect_rows(&rt, &picked, &[&[C1, C2], &[]]);
     Ok(())
 }
 
 #[test]
 fn order_in_a_row(rt: HostRuntime) -> Result<(), Fail> {
-    let problem = small_problem(&rt, rt.alloc(), 20, 2)?;
-    let picked = pick_bottom(&rt, rt.alloc(), &problem, [point(9, 8), point(-3, 7)])?;
+    let picked = pick_on_rows(&rt, rt.alloc(), 20, 2, [(9, 8), (-3, 7)])?;
     expect_rows(&rt, &picked, &[&[], &[C2, C1]]);
     Ok(())
 }
 
 #[test]
-fn next_row_below_and_above(rt: HostRuntime) -> Result<(), Fail> {
-    let problem = small_problem(&rt, rt.alloc(), 8, 4)?;
-    let picked = pick_bottom(&rt, rt.alloc(), &problem, [point(0, 10), point(30, 10)])?;
+fn next_row_below(rt: HostRuntime) -> Result<(), Fail> {
+    let picked = pick_on_rows(&rt, rt.alloc(), 8, 4, [(0, 10), (30, 10)])?;
     expect_rows(&rt, &picked, &[&[C2], &[C1], &[], &[]]);
-    let problem = small_problem(&rt, rt.alloc(), 8, 4)?;
-    let picked = pick_bottom(&rt, rt.alloc(), &problem, [point(0, 30), point(0, 33)])?;
+    Ok(())
+}
+
+#[test]
+fn row_beyond_the_last(rt: HostRuntime) -> Result<(), Fail> {
+    let picked = pick_on_rows(&rt, rt.alloc(), 8, 4, [(0, 30), (0, 33)])?;
     expect_rows(&rt, &picked, &[&[], &[], &[C2], &[C1]]);
     Ok(())
 }

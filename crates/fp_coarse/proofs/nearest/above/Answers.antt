@@ -49,7 +49,7 @@ loop-number-preserved c =
     let other : Found = record { segment = number; cost = c.cost_to.result } in
     let passes : ℕ → Bool = has_free rooms.free.items aim.width in
     let stepped = best_above passes (cost_of segments aim) c.args.from number c.loop-number.best other c.loop-number.invariant.best c.loop-number.invariant.from refl
-        (cost_is segments aim number c.cost_to.result c.cost_to.ensures) (c.loop-number.invariant.open_is c.loop-number-test.true) in
+    (cost_is segments aim number c.cost_to.result c.cost_to.ensures) (c.loop-number.invariant.open_is c.loop-number-test.true) in
     record {
       from = omega (arith, c.next_open-number-in-loop-number.ensures.from, c.loop-number.invariant.from);
       within = omega (arith, c.next_open-number-in-loop-number.ensures.within, many);

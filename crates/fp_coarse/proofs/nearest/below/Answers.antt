@@ -32,7 +32,7 @@ returns-then-is_passed c =
     (λ n before pass. omega (
       arith,
       far_below segments rooms.free.items rooms.most.items aim number n c.requires.search
-      (c.requires.below number (omega (arith, c.loop-low.invariant.within, c.loop-low-test.true))) (omega (arith, before)) within pass,
+          (c.requires.below number (omega (arith, c.loop-low.invariant.within, c.loop-low-test.true))) (omega (arith, before)) within pass,
       c.rise.ensures.value,
     ))
 
@@ -53,7 +53,7 @@ loop-low-preserved c =
     let passes : ℕ → Bool = has_free rooms.free.items aim.width in
     let before = subst (λ n. IsBestOf segments rooms.free.items aim n (length segments) c.loop-low.best) next c.loop-low.invariant.best in
     let stepped = best_below passes (cost_of segments aim) number (length segments) c.loop-low.best other before within refl
-        (cost_is segments aim number c.cost_to.result c.cost_to.ensures) (c.loop-low.invariant.open_is c.loop-low-test.true) in
+    (cost_is segments aim number c.cost_to.result c.cost_to.ensures) (c.loop-low.invariant.open_is c.loop-low-test.true) in
     record {
       within = omega (arith, c.last_open-low-in-loop-low.ensures.below, c.loop-low.invariant.within);
       best = subst (IsFound passes (cost_of segments aim) c.last_open-low-in-loop-low.result (length segments)) (sym c.later.ensures)

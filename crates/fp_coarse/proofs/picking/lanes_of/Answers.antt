@@ -21,7 +21,7 @@ pub push-requires : goal.push-requires
 push-requires g c =
     let are = subst (AreByTarget c.args.targets.now c.args.choices.now) (sym c.as_slice-entry-items.ensures.value) c.in_ok-entries.ensures in
     let inside = entries_within c.args.problem.now g.S.Side.DIE c.args.targets.now c.args.choices.now c.as_slice-entry-items.result.now are c.requires.choices
-        c.loop-entry.entry-index (pos 0, 0, 0) c.loop-entry-test.true in
+    c.loop-entry.entry-index (pos 0, 0, 0) c.loop-entry-test.true in
     omega (arith, c.new-in-loop-entry.ensures, inside, c.loop-entry.invariant.long)
 
 pub loop-entry-preserved : goal.loop-entry-preserved

@@ -59,7 +59,7 @@ loop-cell-preserved c =
     let choice : Choice = record { cell = cell; segment = c.in-Some.segment } in
     let items : c.push.new.self.items ≡ c.loop-cell.choices.items ++ choice ∷ [] = c.in_ok-push-in-Some.ensures.items in
     let more : taken_of c.push.new.self.items ≡ taken ++ record { cell = cell.0; segment = c.in-Some.segment } ∷ [] =
-        ap taken_of items ∙ taken_push c.loop-cell.choices.items choice in
+    ap taken_of items ∙ taken_push c.loop-cell.choices.items choice in
     let next = nearest_is p targets die taken c.loop-cell.rooms.free.items cell.0 (Some c.in-Some.segment) c.loop-cell.invariant.left c.in-Some.ensures.nearest in
     let rest = numbers_of (drop (index + 1) order) in
     record {
