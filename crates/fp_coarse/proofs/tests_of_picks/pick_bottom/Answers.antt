@@ -8,7 +8,7 @@ use Rattle.fp_place.specs.Places.{die_at}
 use Rattle.fp_score.specs.Pick.{point_at}
 use Rattle.fp_coarse.specs.Nearest.{IsNearPoint}
 use Rattle.fp_coarse.specs.Picking.{CanPick}
-use Rattle.fp_coarse.proofs.tests.pick_bottom.Goals as goal
+use Rattle.fp_coarse.proofs.tests_of_picks.pick_bottom.Goals as goal
 
 two_can : (p : Netlist) (first second : Point) → length p.cells ≡ 2 → fits p 0 Bottom ≡ true → fits p 1 Bottom ≡ true → IsNearPoint first → IsNearPoint second
     → CanPick p (Bottom ∷ Bottom ∷ []) (first ∷ second ∷ [])
