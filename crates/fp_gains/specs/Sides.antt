@@ -34,6 +34,6 @@ cut_now here there = if nat_lt 0 here && nat_lt 0 there then 1 else 0
 abbrev pub share_by : ℕ → ℕ → ℕ
 share_by here there = (if nat_lt 0 there then 1 else 0) + (if nat_lt 1 here then 0 else 1)
 
-unfoldable pub share : Die → Sides → ℕ
+abbrev pub share : Die → Sides → ℕ
 share Top sides = share_by sides.top sides.bottom
 share Bottom sides = share_by sides.bottom sides.top

@@ -1,6 +1,7 @@
 //! Lists of numbers in one flat list.
 
-ghost use Rattle.std.specs.Prelude.{◌≡◌, ◌<◌, ◌∷◌, ◌++◌, [], IfOk, OnOk, length};
+ghost use Rattle.std.specs.Prelude.{◌≡◌, ◌+◌, ◌<◌, ◌≤◌, ◌∷◌, ◌++◌, [], IfOk, OnOk, length, slice_index};
+ghost use Rattle.std.specs.List.{slice_range};
 ghost use Rattle.fp_gains.specs.Lists.{list_at};
 
 use std::alloc::{AllocError, Global};
@@ -56,6 +57,16 @@ impl Lists {
         requires { number < length self.now }
         ensures { result.now ≡ list_at self.now number }
     {
-        &self.items[self.starts[number]..self.starts[number + 1]]
+        part(&self.starts, &self.items, number)
     }
+}
+
+// One of the parts of a list that begin at these places.
+fn part<'a>(starts: &[usize], items: &'a [u32], number: usize) -> &'a [u32]
+    requires there { number + 1 < length starts.now }
+    requires rises { slice_index starts.now number ≤ slice_index starts.now (number + 1) }
+    requires within { slice_index starts.now (number + 1) ≤ length items.now }
+    ensures { result.now ≡ slice_range items.now (slice_index starts.now number) (slice_index starts.now (number + 1)) }
+{
+    &items[starts[number]..starts[number + 1]]
 }
