@@ -1,1 +1,5 @@
+pub mod CutLemmas
+pub mod HoldLemmas
 pub mod ListLemmas
+pub mod RankLemmas
+pub mod WeightLemmas

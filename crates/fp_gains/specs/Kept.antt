@@ -1,6 +1,6 @@
 -- How gains are kept: for each net the number of its cells on each die, for each cell a key that rises with its gain, and for each die an
 -- order that shows the keys of the cells which are free to move there.
-use Rattle.std.specs.Prelude.{◌≡◌, ◌≢◌, ℕ, ◌+◌, ◌*◌, ◌^◌, ◌<◌, ◌≤◌, Bool, ◌&&◌, not, if◌then◌else◌, List, [], ◌∷◌, length, get_or, slice_index, slice_index_or}
+use Rattle.std.specs.Prelude.{◌≡◌, ◌≢◌, ℕ, ◌+◌, ◌*◌, ◌^◌, ◌<◌, ◌≤◌, Bool, false, ◌&&◌, not, if◌then◌else◌, List, [], ◌∷◌, length, get_or, slice_index, slice_index_or}
 use Rattle.fp_base.specs.declared.ids.Die.{Die}
 use Rattle.fp_base.specs.declared.ids.Die.TheVariants.{Top, Bottom}
 use Rattle.fp_netlist.specs.Netlist.{Netlist}
@@ -60,6 +60,8 @@ pub record AreShownBut (one : ℕ) (dies : List Die) (locked : List Bool) (r : R
   pub all_bottom : length r.bottom.keys ≡ length dies
   pub top : (cell : ℕ) → cell ≢ one → cell < length dies → Shows dies locked r.keys.items Top r.top cell
   pub bottom : (cell : ℕ) → cell ≢ one → cell < length dies → Shows dies locked r.keys.items Bottom r.bottom cell
+  pub top_out : is_in r.top one ≡ false → get_or r.top.keys one 0 ≡ 0
+  pub bottom_out : is_in r.bottom one ≡ false → get_or r.bottom.keys one 0 ≡ 0
 
 pub record AreShown (dies : List Die) (locked : List Bool) (r : Ranks) : Type 0 where
   pub all_cells : length r.keys.items ≡ length dies

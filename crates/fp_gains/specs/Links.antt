@@ -74,6 +74,7 @@ pub record AreMembers (members : List (List ℕ)) (cells : ℕ) : Type 0 where
 
 -- the nets of each cell, each once, of which it is a member
 pub record AreLinks (members nets : List (List ℕ)) (cells : ℕ) : Type 0 where
+  pub few_cells : cells ≤ 2 ^ 18
   pub all_cells : length nets ≡ cells
   pub within : (cell : ℕ) → All (λ net. net < length members) (list_at nets cell)
   pub once : (cell : ℕ) → IsDistinct (λ a b. a == b) (list_at nets cell)

@@ -6,6 +6,7 @@ ghost use Rattle.fp_netlist.specs.Netlist.{Netlist};
 ghost use Rattle.fp_place.specs.Cut.{cut};
 ghost use Rattle.fp_place.specs.Settled.{flipped, first_least, none_moved};
 ghost use Rattle.fp_gains.specs.Gained.{IsGainsOf, is_movable};
+ghost use Rattle.fp_gains.specs.Kept.{even};
 
 use crate::links;
 use crate::lists::Lists;
@@ -72,7 +73,7 @@ impl Gains {
         requires { cell.0 < length self.now.dies }
         ensures { (p : Netlist) → IsGainsOf p self.now → pos (cut p self.now.dies) ≡ (pos (cut p (flipped self.now.dies cell.0)) +ℤ result) }
     {
-        i64::from(self.state.ranks.keys[cell.0 as usize]) - i64::from(EVEN)
+        gain_of(self.state.ranks.keys[cell.0 as usize])
     }
 
     /// Moves a cell to its other die, whether it is locked or not. It touches the cells of the cell's nets alone.
@@ -82,7 +83,6 @@ impl Gains {
         ensures locked { self.new.locked ≡ self.old.locked }
         ensures of_problem { (p : Netlist) → IsGainsOf p self.old → IsGainsOf p self.new }
     {
-        let cell = cell.0 as usize;
         self.state.flip(&self.members, &self.nets, cell);
     }
 
@@ -93,7 +93,7 @@ impl Gains {
         ensures locked { self.new.locked ≡ set self.old.locked cell.0 true }
         ensures of_problem { (p : Netlist) → IsGainsOf p self.old → IsGainsOf p self.new }
     {
-        self.state.set_lock(cell.0 as usize, true);
+        self.state.set_lock(cell, true);
     }
 
     /// Unlocks every cell.
@@ -116,6 +116,13 @@ impl Gains {
         let bottom = self.state.ranks.bottom.best(problem, caps);
         Some(better(top, bottom)?.cell)
     }
+}
+
+// The gain that a key stands for.
+fn gain_of(key: u32) -> i64
+    ensures { pos key ≡ (pos even +ℤ result) }
+{
+    i64::from(key) - i64::from(EVEN)
 }
 
 // The better of two leaders, where there is any.

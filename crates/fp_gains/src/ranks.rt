@@ -24,17 +24,16 @@ pub const EVEN: u32 = (1 << 21) + 1;
 
 impl Ranks {
     /// Sets the key of a cell, and shows it.
-    pub fn set(&mut self, dies: &[Die], locked: &[bool], cell: usize, key: u32)
-        requires cell { cell < length dies.now }
-        requires shown { AreShownBut cell dies.now locked.now self.old }
-        ensures keys { self.new.keys.items ≡ set self.old.keys.items cell key }
+    pub fn set(&mut self, dies: &[Die], locked: &[bool], cell: CellId, key: u32)
+        requires cell { cell.0 < length dies.now }
+        requires shown { AreShownBut cell.0 dies.now locked.now self.old }
+        ensures keys { self.new.keys.items ≡ set self.old.keys.items cell.0 key }
         ensures shown { AreShown dies.now locked.now self.new }
         ensures follow { Follow self.old self.new }
     {
-        self.keys[cell] = key;
-        let id = CellId(cell as u32);
-        self.top.set(id, free_key(dies, locked, key, Die::Top, cell));
-        self.bottom.set(id, free_key(dies, locked, key, Die::Bottom, cell));
+        self.keys[cell.0 as usize] = key;
+        self.top.set(cell, free_key(dies, locked, key, Die::Top, cell));
+        self.bottom.set(cell, free_key(dies, locked, key, Die::Bottom, cell));
     }
 
     /// Gives each of these cells the key that its net's numbers of cells after a change make of the key by those before.
@@ -55,21 +54,20 @@ impl Ranks {
         ensures follow { Follow self.old self.new }
     {
         for cell in cells {
-            let cell = *cell as usize;
-            let die = dies[cell];
-            let key = self.keys[cell] + after.share(die) - before.share(die);
-            self.set(dies, locked, cell, key);
+            let die = dies[*cell as usize];
+            let key = self.keys[*cell as usize] + after.share(die) - before.share(die);
+            self.set(dies, locked, CellId(*cell), key);
         }
     }
 }
 
 // The key of a cell that is free to move to a die, 0 for others.
-fn free_key(dies: &[Die], locked: &[bool], key: u32, die: Die, cell: usize) -> u32
-    requires cell { cell < length dies.now }
+fn free_key(dies: &[Die], locked: &[bool], key: u32, die: Die, cell: CellId) -> u32
+    requires cell { cell.0 < length dies.now }
     requires locks { length locked.now ≡ length dies.now }
-    ensures { result ≡ (if is_free dies.now locked.now die cell then key else 0) }
+    ensures { result ≡ (if is_free dies.now locked.now die cell.0 then key else 0) }
 {
-    if locked[cell] || dies[cell] == die {
+    if locked[cell.0 as usize] || dies[cell.0 as usize] == die {
         0
     } else {
         key

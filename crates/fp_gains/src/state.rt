@@ -1,6 +1,6 @@
 //! What changes in gains: where cells stand, which are locked, the nets' numbers of cells on each die, and the keys.
 
-ghost use Rattle.std.specs.Prelude.{◌≡◌, ℕ, ◌+◌, ◌<◌, ◌==◌, All, false, length, set, map};
+ghost use Rattle.std.specs.Prelude.{◌≡◌, ℕ, ◌+◌, ◌<◌, ◌≤◌, ◌^◌, ◌==◌, All, false, length, set, map};
 ghost use Rattle.std.specs.List.{IsDistinct};
 ghost use Rattle.fp_place.specs.Settled.{flipped};
 ghost use Rattle.fp_gains.specs.Links.{AreMembers};
@@ -10,7 +10,7 @@ ghost use Rattle.fp_gains.specs.Changes.{CanTurn, AreTurned, Stands, Lies};
 use crate::lists::Lists;
 use crate::ranks::{EVEN, Ranks};
 use crate::sides::{Sides, other};
-use fp_base::Die;
+use fp_base::{CellId, Die};
 
 /// Where the cells stand, which are locked, how many of each net's cells stand on each die, and the cells' keys.
 #[derive(Drop)]
@@ -58,44 +58,46 @@ impl State {
     }
 
     /// Moves a cell to its other die. Its own gain turns its sign.
-    pub fn flip(&mut self, members: &Lists, nets: &Lists, cell: usize)
-        requires cell { cell < length self.old.dies.items }
+    pub fn flip(&mut self, members: &Lists, nets: &Lists, cell: CellId)
+        requires cell { cell.0 < length self.old.dies.items }
         requires kept { IsKept members.now nets.now self.old }
         ensures kept { IsKept members.now nets.now self.new }
-        ensures dies { self.new.dies.items ≡ flipped self.old.dies.items cell }
+        ensures dies { self.new.dies.items ≡ flipped self.old.dies.items cell.0 }
         ensures locked { self.new.locked ≡ self.old.locked }
         ensures follow { Follow self.old.ranks self.new.ranks }
     {
-        let die = self.dies[cell];
-        let key = 2 * EVEN - self.ranks.keys[cell];
-        self.turn_nets(members, nets.list(cell), die);
-        self.dies[cell] = other(die);
+        let place = cell.0 as usize;
+        let die = self.dies[place];
+        let key = 2 * EVEN - self.ranks.keys[place];
+        self.turn_nets(members, nets.list(place), die);
+        self.dies[place] = other(die);
         self.ranks.set(&self.dies, &self.locked, cell, key);
     }
 
     /// Locks or unlocks a cell.
-    pub fn set_lock(&mut self, cell: usize, lock: bool)
-        requires cell { cell < length self.old.dies.items }
+    pub fn set_lock(&mut self, cell: CellId, lock: bool)
+        requires cell { cell.0 < length self.old.dies.items }
         requires shown { AreShown self.old.dies.items self.old.locked.items self.old.ranks }
         ensures shown { AreShown self.new.dies.items self.new.locked.items self.new.ranks }
-        ensures locked { self.new.locked.items ≡ set self.old.locked.items cell lock }
+        ensures locked { self.new.locked.items ≡ set self.old.locked.items cell.0 lock }
         ensures lies { Lies self.old self.new }
     {
-        self.locked[cell] = lock;
-        let key = self.ranks.keys[cell];
+        self.locked[cell.0 as usize] = lock;
+        let key = self.ranks.keys[cell.0 as usize];
         self.ranks.set(&self.dies, &self.locked, cell, key);
     }
 
     /// Unlocks every cell.
     pub fn unlock_all(&mut self)
-        requires { AreShown self.old.dies.items self.old.locked.items self.old.ranks }
+        requires few { length self.old.dies.items ≤ 2 ^ 18 }
+        requires shown { AreShown self.old.dies.items self.old.locked.items self.old.ranks }
         ensures shown { AreShown self.new.dies.items self.new.locked.items self.new.ranks }
         ensures locked { self.new.locked.items ≡ map (λ _. false) self.old.locked.items }
         ensures lies { Lies self.old self.new }
     {
-        for cell in 0..self.dies.len() {
-            if self.locked[cell] {
-                self.set_lock(cell, false);
+        for cell in 0..self.dies.len() as u32 {
+            if self.locked[cell as usize] {
+                self.set_lock(CellId(cell), false);
             }
         }
     }
