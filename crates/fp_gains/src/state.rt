@@ -96,9 +96,7 @@ impl State {
         ensures lies { Lies self.old self.new }
     {
         for cell in 0..self.dies.len() as u32 {
-            if self.locked[cell as usize] {
-                self.set_lock(CellId(cell), false);
-            }
+            self.set_lock(CellId(cell), false);
         }
     }
 
