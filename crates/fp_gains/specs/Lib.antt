@@ -1,0 +1,5 @@
+pub mod Contests
+pub mod KeptOrder
+pub mod KeptTournament
+pub mod Ordered
+pub mod Ordering
