@@ -1,5 +1,6 @@
 -- How cells are put in order, and the places that cells and slots name.
 use Rattle.std.specs.Prelude.{◌≡◌, ◌≢◌, ℕ, ◌<◌, ◌≤◌, true, false, IsTrue, List, length, map, All, AllPairs, Contains, get_or, Option, Some, None}
+use Rattle.std.specs.List.Sorted.{IsNonDecreasingBy}
 use Rattle.fp_base.specs.declared.ids.CellId.{CellId}
 use Rattle.fp_base.specs.declared.ids.Die.{Die}
 use Rattle.fp_netlist.specs.Netlist.{Netlist}
@@ -18,15 +19,27 @@ abbrev pub key_in : List Leader → Option ℕ → ℕ
 key_in leaves None = 0
 key_in leaves (Some slot) = (leader_at leaves slot).key
 
--- cells and their places name each other
-pub record HoldsPlaces (places : List (Option ℕ)) (cells : List ℕ) : Type 0 where
-  pub found : (slot : ℕ) → slot < length cells → get_or places (get_or cells slot 0) None ≡ Some slot
-  pub named : (cell slot : ℕ) → get_or places cell None ≡ Some slot → (slot < length cells) × (get_or cells slot 0 ≡ cell)
+-- the first so many cells and their places name each other
+pub record HoldPlaces (places : List (Option ℕ)) (cells : List ℕ) (count : ℕ) : Type 0 where
+  pub found : (slot : ℕ) → slot < count → get_or places (get_or cells slot 0) None ≡ Some slot
+  pub named : (cell slot : ℕ) → get_or places cell None ≡ Some slot → (slot < count) × (get_or cells slot 0 ≡ cell)
 
--- the places of so many cells
-pub record AreSlots (count : ℕ) (places : List (Option ℕ)) (cells : List CellId) : Type 0 where
-  pub many : length places ≡ count
-  pub hold : HoldsPlaces places (map (λ cell. cell.0) cells)
+abbrev pub numbers : List CellId → List ℕ
+numbers cells = map (λ cell. cell.0) cells
+
+-- the places of all cells
+pub record AreSlots (many : ℕ) (places : List (Option ℕ)) (cells : List CellId) (count : ℕ) : Type 0 where
+  pub long : length places ≡ many
+  pub hold : HoldPlaces places (numbers cells) count
+
+-- what an order's parts say
+abbrev pub order_as : Die → List (Option ℕ) → List Leader → Ordered
+order_as die places leaves = record {
+  die = die;
+  cells = map number_of leaves;
+  places = places;
+  keys = map (key_in leaves) places;
+}
 
 -- an area and a cell
 abbrev pub no_entry : ℕ × ℕ
@@ -56,7 +69,7 @@ pub record AreByArea (p : Netlist) (die : Die) (cells : List CellId) : Type 0 wh
   pub fitting : All (λ cell. IsTrue (fits p cell.0 die)) cells
   pub there : (cell : ℕ) → cell < length p.cells → IsTrue (fits p cell die) → Contains cells (record { 0 = cell })
   pub apart : AreApart cells
-  pub rising : AllPairs (λ a b. area p a.0 die ≤ area p b.0 die) cells
+  pub rising : IsNonDecreasingBy (λ cell. area p cell.0 die) cells
 
 -- so many leaves have room on a die, and those behind have none
 pub record IsRoomFor (p : Netlist) (held : Held) (die : Die) (leaves : List Leader) (count : ℕ) : Type 0 where

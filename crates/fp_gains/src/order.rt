@@ -1,7 +1,8 @@
 //! The cells that fit a die, in order of their area there, with a key for each.
 
 ghost use Rattle.std.specs.Prelude.{◌≡◌, ◌<◌, ◌≤◌, ◌^◌, ℕ, IfOk, length, map, All};
-ghost use Rattle.fp_netlist.specs.Netlist.{IsSound};
+ghost use Rattle.std.specs.List.Sorted.{IsNonDecreasingBy};
+ghost use Rattle.fp_netlist.specs.Points.{area};
 ghost use Rattle.fp_place.specs.Areas.{fits};
 ghost use Rattle.fp_gains.specs.Contests.{IsBestSlot};
 ghost use Rattle.fp_gains.specs.Ordered.{IsOrderOf, IsNewOrder, IsBestOf, with_key};
@@ -65,10 +66,8 @@ impl Order {
         requires { IsOrderOf problem.now self.now.die self.now }
         ensures { IsBestOf problem.now caps.now self.now result }
     {
-        match self.best_with_room(problem, caps) {
-            Some(leader) if leader.key > 0 => Some(leader),
-            _ => None,
-        }
+        self.best_with_room(problem, caps)
+            .filter(|leader| leader.key > 0)
     }
 
     // The best cell with room, whatever its key.
@@ -76,9 +75,8 @@ impl Order {
         requires { IsOrderOf problem.now self.now.die self.now }
         ensures { IsBestWithRoom problem.now caps.now self.now result }
     {
-        let leader = match self.tournament.leader() {
-            Some(leader) => leader,
-            None => return None,
+        let Some(leader) = self.tournament.leader() else {
+            return None;
         };
         if caps.room(problem, leader.cell, self.die) {
             return Some(leader);
@@ -131,7 +129,7 @@ fn slots_of(alloc: Global, count: u32, cells: &[CellId]) -> Result<Vec<Option<u3
     requires few { length cells.now ≤ 2 ^ 18 }
     requires within { All (λ cell. cell.0 < count) cells.now }
     requires apart { AreApart cells.now }
-    ensures { IfOk result (λ slots. AreSlots count slots.items cells.now) }
+    ensures { IfOk result (λ slots. AreSlots count slots.items cells.now (length cells.now)) }
 {
     let mut slots = vec![in alloc; None; count as usize]?;
     for (slot, cell) in cells.iter().enumerate() {
@@ -143,6 +141,7 @@ fn slots_of(alloc: Global, count: u32, cells: &[CellId]) -> Result<Vec<Option<u3
 // How many cells of the order have room on the die: they stand in front.
 fn count_with_room(problem: &Problem, caps: &Caps, die: Die, leaves: &[Leader]) -> usize
     requires within { All (λ leaf. leaf.cell.0 < length problem.now.cells) leaves.now }
+    requires rising { IsNonDecreasingBy (λ leaf. area problem.now leaf.cell.0 die) leaves.now }
     ensures { IsRoomFor problem.now caps.now die leaves.now result }
 {
     let mut low = 0;
