@@ -1,10 +1,10 @@
 -- An order kept by places and a tournament: how many cells have room, setting a key, and the best cell.
-use Rattle.std.proofs.Common.{◌≡◌, ◌≢◌, ℕ, ◌+◌, ◌-◌, ◌*◌, ◌/◌, ◌<◌, ◌≤◌, ◌⊎◌, inl, inr, Bool, true, false, ◌&&◌, cond, nat_le, nat_lt, IsTrue, List, length, map, get_or, set, length-set, length-map, replicate, length-replicate, Option, Some, None, is_some, IfOk, refl, sym, ap, subst, ◌∙◌, arith}
+use Rattle.std.proofs.Common.{◌≡◌, ◌≢◌, ℕ, ◌+◌, ◌-◌, ◌*◌, ◌/◌, ◌<◌, ◌≤◌, ◌⊎◌, inl, inr, Bool, true, false, ◌&&◌, cond, nat_le, nat_lt, IsTrue, List, length, map, get_or, set, length-set, replicate, Option, Some, None, is_some, IfOk, refl, sym, ap, subst, ◌∙◌, arith}
 use Rattle.std.specs.List.{All, Contains}
 use Rattle.std.specs.List.Sorted.{IsNonDecreasingBy}
 use Rattle.std.proofs.Math.Seq.{map-set_same}
 use Rattle.std.proofs.lemmas.Bool.{cases_lt, cases_eq, cases_Bool, and_parts, and_from, leb-true, le-leb, ltb-true, lt-ltb, false_from_ne_true}
-use Rattle.std.proofs.lemmas.List.{get_or-map, get_or-set_same, get_or-set_other, get_or-replicate, get_or_past, ext_get_or}
+use Rattle.std.proofs.lemmas.List.{length-map, length-replicate, get_or-map, get_or-set_same, get_or-set_other, get_or-replicate, get_or_past, ext_get_or}
 use Rattle.std.proofs.lemmas.List.Elements.{All-from_get_or}
 use Rattle.std.proofs.lemmas.Simd.{map-map}
 use Rattle.fp_base.specs.declared.ids.CellId.{CellId}
@@ -87,42 +87,39 @@ places_kept places leaves slot key hold =
 keys_set : (places : List (Option ℕ)) (leaves : List Leader) (cell slot key : ℕ) → HoldPlaces places (map number_of leaves) (length leaves) → get_or places cell None ≡ Some slot
     → cell < length places → map (key_in (rekeyed leaves slot key)) places ≡ set (map (key_in leaves) places) cell key
 keys_set places leaves cell slot key hold there inside =
-    ext_get_or 0 (map (key_in after) places) (set (map (key_in leaves) places) cell key)
-    (length-map places (key_in after) ∙ sym (length-set (map (key_in leaves) places) cell key ∙ length-map places (key_in leaves)))
-    (λ i less. by i (omega (arith, length-map places (key_in after))) (cases_eq i cell))
+    ext_get_or 0 (map (key_in (rekeyed leaves slot key)) places) (set (map (key_in leaves) places) cell key)
+    (length-map places (key_in (rekeyed leaves slot key)) ∙ sym (length-set (map (key_in leaves) places) cell key ∙ length-map places (key_in leaves)))
+    (λ i less. by i (omega (arith, length-map places (key_in (rekeyed leaves slot key)))) (cases_eq i cell))
   where
-    abbrev after : List Leader
-    after = rekeyed leaves slot key
-
     below : slot < length leaves
     below = (hold.named cell slot there).0
 
-    here : key_in after (get_or places cell None) ≡ key
-    here = ap (key_in after) there ∙ ap (λ (l : Leader). l.key) (get_or-set_same leaves slot (keyed (leader_at leaves slot) key) nobody below)
+    here : key_in (rekeyed leaves slot key) (get_or places cell None) ≡ key
+    here = ap (key_in (rekeyed leaves slot key)) there ∙ ap (λ (l : Leader). l.key) (get_or-set_same leaves slot (keyed (leader_at leaves slot) key) nobody below)
 
-    elsewhere : (i : ℕ) → i ≢ cell → (o : Option ℕ) → get_or places i None ≡ o → key_in after o ≡ key_in leaves o
+    elsewhere : (i : ℕ) → i ≢ cell → (o : Option ℕ) → get_or places i None ≡ o → key_in (rekeyed leaves slot key) o ≡ key_in leaves o
     elsewhere i other None at = refl
     elsewhere i other (Some s) at =
         ap (λ (l : Leader). l.key) (get_or-set_other leaves slot s (keyed (leader_at leaves slot) key) nobody
         (λ same. other (sym (hold.named i s at).1 ∙ ap (λ (k : ℕ). get_or (map number_of leaves) k 0) same ∙ (hold.named cell slot there).1)))
 
-    by : (i : ℕ) → i < length places → (i ≡ cell) ⊎ (i ≢ cell) → get_or (map (key_in after) places) i 0 ≡ get_or (set (map (key_in leaves) places) cell key) i 0
+    by : (i : ℕ) → i < length places → (i ≡ cell) ⊎ (i ≢ cell) → get_or (map (key_in (rekeyed leaves slot key)) places) i 0 ≡ get_or (set (map (key_in leaves) places) cell key) i 0
     by i less (inl same) =
-        get_or-map (key_in after) places i None 0 less ∙ ap (λ (c : ℕ). key_in after (get_or places c None)) same ∙ here
+        get_or-map (key_in (rekeyed leaves slot key)) places i None 0 less ∙ ap (λ (c : ℕ). key_in (rekeyed leaves slot key) (get_or places c None)) same ∙ here
         ∙ sym (ap (λ (c : ℕ). get_or (set (map (key_in leaves) places) cell key) c 0) same ∙ get_or-set_same (map (key_in leaves) places) cell key 0 (omega (arith, inside, length-map places (key_in leaves))))
     by i less (inr other) =
-        get_or-map (key_in after) places i None 0 less ∙ elsewhere i other (get_or places i None) refl
+        get_or-map (key_in (rekeyed leaves slot key)) places i None 0 less ∙ elsewhere i other (get_or places i None) refl
         ∙ sym (get_or-set_other (map (key_in leaves) places) cell i key 0 other ∙ get_or-map (key_in leaves) places i None 0 less)
+
+abbrev with_keys : Die → List (Option ℕ) → List ℕ → List ℕ → Ordered
+with_keys die places cells keys = record { die = die; cells = cells; places = places; keys = keys }
 
 pub key_set : (die : Die) (places : List (Option ℕ)) (leaves : List Leader) (cell slot key : ℕ) → HoldPlaces places (map number_of leaves) (length leaves)
     → get_or places cell None ≡ Some slot → cell < length places → order_as die places (rekeyed leaves slot key) ≡ with_key (order_as die places leaves) cell key
 key_set die places leaves cell slot key hold there inside =
-    ap (λ (cells : List ℕ). of cells (map (key_in (rekeyed leaves slot key)) places)) (numbers_kept leaves slot key)
-    ∙ ap (of (map number_of leaves)) (keys_set places leaves cell slot key hold there inside)
-    ∙ sym (ap (λ (o : Option ℕ). of (map number_of leaves) (cond (is_some o) (set (map (key_in leaves) places) cell key) (map (key_in leaves) places))) there)
-  where
-    abbrev of : List ℕ → List ℕ → Ordered
-    of cells keys = record { die = die; cells = cells; places = places; keys = keys }
+    ap (λ (cells : List ℕ). with_keys die places cells (map (key_in (rekeyed leaves slot key)) places)) (numbers_kept leaves slot key)
+    ∙ ap (with_keys die places (map number_of leaves)) (keys_set places leaves cell slot key hold there inside)
+    ∙ sym (ap (λ (o : Option ℕ). with_keys die places (map number_of leaves) (cond (is_some o) (set (map (key_in leaves) places) cell key) (map (key_in leaves) places))) there)
 
 -- a new order
 unkeyed_numbers : (cells : List CellId) → map number_of (map unkeyed cells) ≡ numbers cells
@@ -178,7 +175,7 @@ in_where_fits p die cells places by_area are cell inside = by (cases_Bool (fits 
 new_rising : (p : Netlist) (die : Die) (cells : List CellId) → AreByArea p die cells → (low high : ℕ) → low ≤ high → high < length (map number_of (map unkeyed cells))
     → area p (get_or (map number_of (map unkeyed cells)) low 0) die ≤ area p (get_or (map number_of (map unkeyed cells)) high 0) die
 new_rising p die cells by_area low high le below =
-    subst (λ (c : ℕ). area p c die ≤ area p (get_or (map number_of (map unkeyed cells)) high 0) die) (sym (at low (omega arith)))
+    subst (λ (c : ℕ). area p c die ≤ area p (get_or (map number_of (map unkeyed cells)) high 0) die) (sym (at low (omega (arith, le, inside))))
     (subst (λ (c : ℕ). area p (get_or cells low no_cell).0 die ≤ area p c die) (sym (at high inside)) (by_area.rising low high no_cell le inside))
   where
     inside : high < length cells
@@ -294,7 +291,7 @@ best_roomy p held die places leaves count best holds room is roomy = record {
     room = roomy;
   };
   key = subst (λ (l : Leader). key_of (order_as die places leaves) l.cell.0 ≡ l.key) is.there mine.key_is;
-  ahead = λ cell open. behind cell open (leaf_of p die places leaves cell holds open.within open.inside);
+  ahead = λ cell roomy. behind cell roomy (leaf_of p die places leaves cell holds roomy.within roomy.inside);
 }
   where
     mine : IsOwnLeaf p die places leaves is.slot (leader_at leaves is.slot).cell.0
@@ -302,9 +299,9 @@ best_roomy p held die places leaves count best holds room is roomy = record {
 
     behind : (cell : ℕ) → IsRoomy p held (order_as die places leaves) cell → HasLeaf p die places leaves cell
         → IsBehind (record { cell = record { 0 = cell }; key = key_of (order_as die places leaves) cell }) best
-    behind cell open leaf =
+    behind cell roomy leaf =
         let own = leaf.own in
-        let ahead = is.ahead leaf.slot (front p held die places leaves count cell holds room open leaf.slot own (cases_lt leaf.slot count)) in
+        let ahead = is.ahead leaf.slot (front p held die places leaves count cell holds room roomy leaf.slot own (cases_lt leaf.slot count)) in
         record {
           key = omega (arith, ahead.key, own.key_is);
           cell = λ same. omega (arith, ahead.cell (omega (arith, own.key_is, same)), own.cell_is);
@@ -312,9 +309,9 @@ best_roomy p held die places leaves count best holds room is roomy = record {
 
 pub none_roomy : (p : Netlist) (held : Held) (die : Die) (places : List (Option ℕ)) (leaves : List Leader) (count : ℕ) → IsHeldOrder p die places leaves → HasAllRoom p held die leaves count
     → count ≡ 0 → (cell : ℕ) → IsRoomy p held (order_as die places leaves) cell → ⊥
-none_roomy p held die places leaves count holds room none cell open =
-    let leaf = leaf_of p die places leaves cell holds open.within open.inside in
-    omega (arith, front p held die places leaves count cell holds room open leaf.slot leaf.own (cases_lt leaf.slot count))
+none_roomy p held die places leaves count holds room none cell roomy =
+    let leaf = leaf_of p die places leaves cell holds roomy.within roomy.inside in
+    omega (arith, front p held die places leaves count cell holds room roomy leaf.slot leaf.own (cases_lt leaf.slot count))
 
 pub front_best : (p : Netlist) (held : Held) (die : Die) (places : List (Option ℕ)) (leaves : List Leader) (count : ℕ) (best : Option Leader) → IsHeldOrder p die places leaves
     → IsRoomFor p held die leaves count → IsBestSlot leaves count best → IsBestWithRoom p held (order_as die places leaves) best
@@ -346,3 +343,22 @@ keyed_best p held o best order is some = record {
   greatest = λ cell inside opens. (is.ahead cell (roomy_where_open p held o cell order inside opens).0).key;
   first = λ cell inside opens same. (is.ahead cell (roomy_where_open p held o cell order inside opens).0).cell same;
 }
+
+-- what a method knows of the parts of an order
+pub held_order : (p : Netlist) (die : Die) (places : List (Option ℕ)) (leaves : List Leader) (o : Ordered) → HoldPlaces places (map number_of leaves) (length leaves)
+    → order_as die places leaves ≡ o → IsOrderOf p o.die o → IsHeldOrder p die places leaves
+held_order p die places leaves o hold seen order = record { hold = hold; order = subst (λ (one : Ordered). IsOrderOf p one.die one) (sym seen) order }
+
+pub keys_long : (die : Die) (places : List (Option ℕ)) (leaves : List Leader) (o : Ordered) (cell : ℕ) → order_as die places leaves ≡ o → cell < length o.keys → cell < length places
+keys_long die places leaves o cell seen inside =
+    let long : length o.keys ≡ length places = sym (ap (λ (one : Ordered). length one.keys) seen) ∙ length-map places (key_in leaves) in
+    omega (arith, inside, long)
+
+-- the leader of all slots, where it has room
+pub leader_roomy : (p : Netlist) (held : Held) (die : Die) (places : List (Option ℕ)) (leaves : List Leader) (best : Leader) → IsHeldOrder p die places leaves
+    → IsBest leaves (length leaves) best → has_room p held best.cell.0 die ≡ true → IsBestRoomy p held (order_as die places leaves) best
+leader_roomy p held die places leaves best holds is roomy = best_roomy p held die places leaves (length leaves) best holds (all_slots p held die leaves) is roomy
+
+pub leader_within : (p : Netlist) (die : Die) (places : List (Option ℕ)) (leaves : List Leader) (best : Leader) → IsHeldOrder p die places leaves → IsBest leaves (length leaves) best
+    → best.cell.0 < length p.cells
+leader_within p die places leaves best holds is = subst (λ (l : Leader). l.cell.0 < length p.cells) is.there (own_leaf p die places leaves is.slot holds is.within).inside

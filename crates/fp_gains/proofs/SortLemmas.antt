@@ -1,5 +1,5 @@
 -- Cells in order of their area, and their places.
-use Rattle.std.proofs.Common.{◌≡◌, ◌≢◌, ℕ, ◌+◌, ◌<◌, ◌≤◌, ◌⊎◌, inl, inr, Bool, true, false, nat_eq, IsTrue, List, [], ◌∷◌, ◌++◌, length, map, get_or, set, length-set, length-map, replicate, Option, Some, None, Result, Ok, Err, IfOk, refl, sym, ap, subst, ◌∙◌, arith}
+use Rattle.std.proofs.Common.{◌≡◌, ◌≢◌, ℕ, ◌+◌, ◌<◌, ◌≤◌, ◌⊎◌, inl, inr, Bool, true, false, nat_eq, IsTrue, List, [], ◌∷◌, ◌++◌, length, map, get_or, set, length-set, replicate, Option, Some, None, Result, Ok, Err, IfOk, refl, sym, ap, subst, ◌∙◌, arith}
 use Rattle.std.specs.Bool.{Decides}
 use Rattle.std.specs.List.{All, AllPairs, Contains}
 use Rattle.std.specs.List.Sorted.{IsPermutation, IsSorted, IsNonDecreasingBy}
@@ -9,10 +9,10 @@ use Rattle.std.specs.declared.cmp.Ordering.TheVariants.{Less, Equal, Greater}
 use Rattle.std.proofs.lemmas.Bool.{cases_lt, cases_eq}
 use Rattle.std.proofs.lemmas.Bool.Decides.{Decides-eqb, nat_tests}
 use Rattle.std.proofs.lemmas.Cmp.{ranked}
-use Rattle.std.proofs.lemmas.List.{get_or-map, map-append, get_or-set_same, get_or-set_other, get_or-replicate, get_or_past}
+use Rattle.std.proofs.lemmas.List.{length-map, length_push, get_or-map, map-append, get_or-set_same, get_or-set_other, get_or-replicate, get_or_past}
 use Rattle.std.proofs.lemmas.List.Elements.{All-map, All-weaker, All-push, Contains-append_left, Contains-push}
 use Rattle.std.proofs.lemmas.List.Quantifiers.{all_pairs_push}
-use Rattle.std.proofs.lemmas.List.Sorted.{IsPermutation-map, All-permutation, Contains-permutation, IsNonDecreasingBy-from_all_adjacent}
+use Rattle.std.proofs.lemmas.List.Sorted.{length_permutation, IsPermutation-map, All-permutation, Contains-permutation, IsNonDecreasingBy-from_all_adjacent}
 use Rattle.std.proofs.lemmas.Map.Keys.{IsDistinct-IsPermutation}
 use Rattle.std.proofs.lemmas.Map.Made.{AllPairs-from_IsDistinct, IsDistinct-from_AllPairs}
 use Rattle.fp_base.specs.declared.ids.CellId.{CellId}
@@ -34,6 +34,7 @@ entry_later p die count entry is = record { within = omega (arith, is.within); f
 
 pub areas_none : (p : Netlist) (die : Die) → AreAreas p die 0 []
 areas_none p die = record {
+  few = omega arith;
   each = λ k d less. absurd (omega arith);
   there = λ cell less. absurd (omega arith);
   apart = λ i j d less below. absurd (omega arith);
@@ -42,6 +43,7 @@ areas_none p die = record {
 pub areas_more : (p : Netlist) (die : Die) (count : ℕ) (entries : List (ℕ × ℕ)) (size : ℕ) → AreAreas p die count entries → IsTrue (fits p count die) → size ≡ area p count die
     → AreAreas p die (count + 1) (entries ++ (size, count) ∷ [])
 areas_more p die count entries size are fitting is = record {
+  few = omega (arith, are.few, length_push entries (size, count));
   each = All-push (IsEntry p die (count + 1)) entries (size, count) (All-weaker (IsEntry p die count) (IsEntry p die (count + 1)) (entry_later p die count) entries are.each)
       (record { within = omega arith; fitting = fitting; area_is = is });
   there = λ cell less fit. subst (λ (cells : List CellId). Contains cells (record { 0 = cell })) (sym (map-append cell_of entries ((size, count) ∷ []))) (by cell fit less (cases_lt cell count));
@@ -56,6 +58,7 @@ areas_more p die count entries size are fitting is = record {
 
 pub areas_same : (p : Netlist) (die : Die) (count : ℕ) (entries : List (ℕ × ℕ)) → AreAreas p die count entries → fits p count die ≡ false → AreAreas p die (count + 1) entries
 areas_same p die count entries are out = record {
+  few = omega (arith, are.few);
   each = All-weaker (IsEntry p die count) (IsEntry p die (count + 1)) (entry_later p die count) entries are.each;
   there = λ cell less fit. by cell fit less (cases_lt cell count);
   apart = are.apart;
@@ -125,6 +128,7 @@ cells_rise p die count sorted each up i j d less below =
 pub sorted_by_area : (p : Netlist) (die : Die) (entries sorted : List (ℕ × ℕ)) → AreAreas p die (length p.cells) entries → IsPermutation entries sorted
     → IsSorted (λ (a b : ℕ × ℕ). ordering_then (nat_cmp a.0 b.0) (nat_cmp a.1 b.1)) sorted → AreByArea p die (cells_alone sorted)
 sorted_by_area p die entries sorted are moved up = record {
+  few = omega (arith, are.few, length_permutation entries sorted moved, length-map sorted cell_of);
   within = All-map (λ (cell : CellId). cell.0 < length p.cells) cell_of sorted (All-weaker (IsEntry p die (length p.cells)) (λ entry. entry.1 < length p.cells) (λ entry is. is.within) sorted each);
   fitting = All-map (λ (cell : CellId). IsTrue (fits p cell.0 die)) cell_of sorted (All-weaker (IsEntry p die (length p.cells)) (λ entry. IsTrue (fits p entry.1 die)) (λ entry is. is.fitting) sorted each);
   there = λ cell less fit. Contains-permutation (cells_alone entries) (cells_alone sorted) (record { 0 = cell }) (IsPermutation-map cell_of entries sorted moved) (are.there cell less fit);

@@ -56,6 +56,7 @@ pub record IsEntry (p : Netlist) (die : Die) (count : ℕ) (entry : ℕ × ℕ) 
 
 -- the entries of the cells below a bound that fit a die
 pub record AreAreas (p : Netlist) (die : Die) (count : ℕ) (entries : List (ℕ × ℕ)) : Type 0 where
+  pub few : length entries ≤ count
   pub each : All (IsEntry p die count) entries
   pub there : (cell : ℕ) → cell < count → IsTrue (fits p cell die) → Contains (cells_alone entries) (record { 0 = cell })
   pub apart : AllPairs (λ a b. a.1 ≢ b.1) entries
@@ -65,6 +66,7 @@ AreApart cells = AllPairs (λ a b. a.0 ≢ b.0) cells
 
 -- the cells that fit a die, each once, in order of their area there
 pub record AreByArea (p : Netlist) (die : Die) (cells : List CellId) : Type 0 where
+  pub few : length cells ≤ length p.cells
   pub within : All (λ cell. cell.0 < length p.cells) cells
   pub fitting : All (λ cell. IsTrue (fits p cell.0 die)) cells
   pub there : (cell : ℕ) → cell < length p.cells → IsTrue (fits p cell die) → Contains cells (record { 0 = cell })
