@@ -1,5 +1,5 @@
 -- Cells in order of their area, and their places.
-use Rattle.std.proofs.Common.{◌≡◌, ◌≢◌, ℕ, ◌+◌, ◌<◌, ◌≤◌, ◌⊎◌, inl, inr, Bool, true, false, nat_eq, IsTrue, List, [], ◌∷◌, ◌++◌, length, map, get_or, set, length-set, replicate, Option, Some, None, Result, Ok, Err, IfOk, refl, sym, ap, subst, ◌∙◌, arith}
+use Rattle.std.proofs.Common.{◌≡◌, ◌≢◌, ℕ, ◌+◌, ◌<◌, ◌≤◌, ◌⊎◌, inl, inr, true, false, nat_eq, IsTrue, List, [], ◌∷◌, ◌++◌, length, map, get_or, set, length-set, replicate, Option, Some, None, Result, Ok, Err, IfOk, refl, sym, ap, subst, ◌∙◌, arith}
 use Rattle.std.specs.Bool.{Decides}
 use Rattle.std.specs.List.{All, AllPairs, Contains}
 use Rattle.std.specs.List.Sorted.{IsPermutation, IsSorted, IsNonDecreasingBy}
@@ -20,7 +20,7 @@ use Rattle.fp_base.specs.declared.ids.Die.{Die}
 use Rattle.fp_netlist.specs.Netlist.{Netlist}
 use Rattle.fp_netlist.specs.Points.{area}
 use Rattle.fp_place.specs.Areas.{fits}
-use Rattle.fp_gains.specs.Ordering.{HoldPlaces, numbers, AreSlots, no_entry, cells_alone, IsEntry, AreAreas, AreApart, AreByArea}
+use Rattle.fp_gains.specs.OrderParts.{numbers, AreSlots, no_entry, cells_alone, IsEntry, AreAreas, AreApart, AreByArea}
 
 abbrev cell_of : ℕ × ℕ → CellId
 cell_of entry = record { 0 = entry.1 }

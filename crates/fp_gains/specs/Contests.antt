@@ -1,5 +1,5 @@
 -- Leaders, and a tournament of them in one list: node k holds the winner of nodes 2k and 2k + 1, the slots are the second half.
-use Rattle.std.specs.Prelude.{◌≡◌, ◌≢◌, ℕ, ◌+◌, ◌*◌, ◌<◌, ◌≤◌, ◌⊎◌, List, length, get_or, set, drop, Option, Some, None}
+use Rattle.std.specs.Prelude.{◌≡◌, ◌≢◌, ℕ, ◌+◌, ◌*◌, ◌<◌, ◌≤◌, ◌⊎◌, List, length, get_or, set, Option, Some, None}
 use Rattle.fp_base.specs.declared.ids.CellId.{CellId}
 use Rattle.fp_gains.specs.declared.tournament.Leader.{Leader}
 

@@ -1,5 +1,5 @@
 pub mod Contests
 pub mod KeptOrder
 pub mod KeptTournament
+pub mod OrderParts
 pub mod Ordered
-pub mod Ordering

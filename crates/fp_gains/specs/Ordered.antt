@@ -7,7 +7,8 @@ use Rattle.fp_place.specs.Areas.{fits}
 use Rattle.fp_place.specs.Held.{Held, has_room}
 use Rattle.fp_gains.specs.declared.tournament.Leader.{Leader}
 
--- The cells of the order by place, and the place of each cell, if it is in the order. The keys are by cell, and 0 for those that are out.
+-- The cells of the order by place, and by cell its place, where it is in the order, and its key, which is 0 where it is out. Every order
+-- keeps cells and places that name each other.
 pub record Ordered : Type 0 where
   pub die : Die
   pub cells : List ℕ

@@ -6,7 +6,7 @@ ghost use Rattle.fp_netlist.specs.Points.{area};
 ghost use Rattle.fp_place.specs.Areas.{fits};
 ghost use Rattle.fp_gains.specs.Contests.{IsBestSlot};
 ghost use Rattle.fp_gains.specs.Ordered.{IsOrderOf, IsNewOrder, IsBestOf, with_key};
-ghost use Rattle.fp_gains.specs.Ordering.{AreByArea, AreSlots, AreApart, AreAreas, IsBestWithRoom, IsRoomFor, cells_alone};
+ghost use Rattle.fp_gains.specs.OrderParts.{AreByArea, AreSlots, AreApart, AreAreas, IsBestWithRoom, IsRoomFor, cells_alone};
 
 use crate::tournament::{Leader, Tournament};
 use fp_base::{CellId, Die, NoMemory};
@@ -37,7 +37,7 @@ impl Model for Order {
 }
 
 impl Order {
-    /// The cells of a problem that fit the die, all with key 0.
+    /// The cells of a problem that fit the die, all with key 0. The only call that takes memory; it fails where there is none.
     pub fn new(alloc: Global, problem: &Problem, die: Die) -> Result<Order, NoMemory>
         ensures { IfOk result (IsNewOrder problem.now die) }
     {
@@ -51,7 +51,7 @@ impl Order {
         })
     }
 
-    /// Gives a cell another key, where it fits the die.
+    /// Gives a cell another key, where it is in the order.
     pub fn set(&mut self, cell: CellId, key: u32)
         requires { cell.0 < length self.old.keys }
         ensures { self.new ≡ with_key self.old cell.0 key }

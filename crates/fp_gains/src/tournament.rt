@@ -7,13 +7,14 @@ use fp_base::{CellId, NoMemory};
 use std::alloc::Global;
 use std::marker::Model;
 
-/// A cell and its key.
+/// A cell and its key. A greater key goes first, and a lesser cell among equal keys.
 #[derive(Clone, Copy, Debug, PartialEq, Eq)]
 pub struct Leader {
     pub cell: CellId,
     pub key: u32,
 }
 
+// What stands in a node before its match is played.
 const NOBODY: Leader = Leader {
     cell: CellId(0),
     key: 0,
@@ -40,7 +41,8 @@ impl Model for Tournament {
 }
 
 impl Tournament {
-    /// A slot of key 0 for each of these cells, in this order.
+    /// A slot of key 0 for each of these cells, in this order. The only call that takes memory, two leaders for each cell; it fails where
+    /// there is none.
     pub fn new(alloc: Global, cells: &[CellId]) -> Result<Tournament, NoMemory>
         requires { length cells.now ≤ 2 ^ 18 }
         ensures { IfOk result (λ tournament. tournament ≡ map unkeyed cells.now) }

@@ -1,5 +1,5 @@
-use Rattle.std.proofs.Common.{◌≡◌, ◌+◌, ◌∙◌, sym, ap, subst, arith}
-use Rattle.fp_gains.specs.Ordering.{AreAreas}
+use Rattle.std.proofs.Common.{◌+◌, ◌∙◌, sym, subst}
+use Rattle.fp_gains.specs.OrderParts.{AreAreas}
 use Rattle.fp_gains.proofs.SortLemmas.{areas_more, areas_same}
 use Rattle.fp_gains.proofs.order.areas.Goals as goal
 use Rattle.fp_gains.proofs.order.areas.Goals.{then-fits+in_ok-push, else-fits}

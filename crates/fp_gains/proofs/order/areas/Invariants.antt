@@ -1,4 +1,4 @@
-use Rattle.fp_gains.specs.Ordering.{AreAreas}
+use Rattle.fp_gains.specs.OrderParts.{AreAreas}
 use Rattle.fp_gains.proofs.order.areas.Given as goal
 
 abbrev pub invariant-loop-cell : goal.invariant-loop-cell

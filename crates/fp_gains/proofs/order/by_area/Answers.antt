@@ -1,5 +1,5 @@
 use Rattle.std.proofs.Common.{◌≡◌, sym, subst}
-use Rattle.fp_gains.specs.Ordering.{AreByArea, cells_alone}
+use Rattle.fp_gains.specs.OrderParts.{AreByArea, cells_alone}
 use Rattle.fp_gains.proofs.SortLemmas.{ok_then, sorted_by_area}
 use Rattle.fp_gains.proofs.order.by_area.Goals as goal
 

@@ -1,5 +1,5 @@
 use Rattle.std.proofs.Common.{◌≡◌, length, refl, subst, arith}
-use Rattle.fp_gains.specs.Ordering.{AreSlots}
+use Rattle.fp_gains.specs.OrderParts.{AreSlots}
 use Rattle.fp_gains.proofs.SortLemmas.{slots_more}
 use Rattle.fp_gains.proofs.order.slots_of.Goals as goal
 

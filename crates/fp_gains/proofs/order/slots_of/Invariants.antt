@@ -1,4 +1,4 @@
-use Rattle.fp_gains.specs.Ordering.{AreSlots}
+use Rattle.fp_gains.specs.OrderParts.{AreSlots}
 use Rattle.fp_gains.proofs.order.slots_of.Given as goal
 
 abbrev pub invariant-loop-slot : goal.invariant-loop-slot

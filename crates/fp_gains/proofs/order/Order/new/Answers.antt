@@ -1,7 +1,7 @@
 use Rattle.std.proofs.Common.{◌≡◌, ◌∙◌, length, map, sym, ap, subst, arith}
 use Rattle.fp_gains.specs.Contests.{unkeyed}
 use Rattle.fp_gains.specs.Ordered.{IsNewOrder}
-use Rattle.fp_gains.specs.Ordering.{number_of, HoldPlaces, AreSlots, order_as}
+use Rattle.fp_gains.specs.OrderParts.{number_of, HoldPlaces, AreSlots, order_as}
 use Rattle.fp_gains.proofs.OrderLemmas.{places_new, new_order}
 use Rattle.fp_gains.proofs.order.Order.new.Goals as goal
 use Rattle.fp_gains.proofs.order.Order.new.Goals.{In_ok-tournament}

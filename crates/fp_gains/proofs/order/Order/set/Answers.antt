@@ -1,7 +1,7 @@
 use Rattle.std.proofs.Common.{◌≡◌, ◌∙◌, ◌<◌, map, get_or, Some, None, sym, ap, subst, length}
 use Rattle.std.proofs.lemmas.List.{get_or_read}
 use Rattle.fp_gains.specs.Ordered.{with_key}
-use Rattle.fp_gains.specs.Ordering.{number_of, HoldPlaces, order_as}
+use Rattle.fp_gains.specs.OrderParts.{number_of, HoldPlaces, order_as}
 use Rattle.fp_gains.proofs.OrderLemmas.{places_kept, key_set, keys_long}
 use Rattle.fp_gains.proofs.order.Order.set.Goals as goal
 use Rattle.fp_gains.proofs.order.Order.set.Goals.{After-set, After-row_known-1}

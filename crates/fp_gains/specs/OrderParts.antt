@@ -8,7 +8,7 @@ use Rattle.fp_netlist.specs.Points.{area}
 use Rattle.fp_place.specs.Areas.{fits}
 use Rattle.fp_place.specs.Held.{Held, has_room}
 use Rattle.fp_gains.specs.declared.tournament.Leader.{Leader}
-use Rattle.fp_gains.specs.Contests.{leader_at, nobody, IsBehind}
+use Rattle.fp_gains.specs.Contests.{leader_at, IsBehind}
 use Rattle.fp_gains.specs.Ordered.{Ordered, is_in, key_of}
 
 -- a leader's cell, and the key at a place
