@@ -1,6 +1,10 @@
 pub mod CutLemmas
 pub mod HoldLemmas
 pub mod ListLemmas
+pub mod OrderLaws
+pub mod OrderLemmas
 pub mod RankLemmas
+pub mod SortLemmas
 pub mod StateLemmas
+pub mod TournamentLemmas
 pub mod WeightLemmas

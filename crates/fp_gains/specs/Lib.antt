@@ -6,8 +6,8 @@ pub mod KeptOrder
 pub mod KeptTournament
 pub mod Links
 pub mod Lists
+pub mod OrderParts
 pub mod Ordered
-pub mod Ordering
 pub mod Sides
 pub use Rattle.fp_netlist.specs.Netlist
 pub use Rattle.fp_place.specs.Settled

@@ -4,6 +4,7 @@ ghost use Rattle.std.specs.Prelude.{◌≡◌, ◌<◌, ◌≤◌, IfOk, All, le
 ghost use Rattle.fp_gains.specs.Gained.{IsGainsOf};
 
 use crate::Gains;
+use crate::tournament::{Leader, Tournament};
 use fp_base::{CellId, Die, LibId, NetId, NoMemory, TechId};
 use fp_netlist::{Problem, ProblemBuilder};
 use fp_place::{Caps, cut};
@@ -148,6 +149,35 @@ fn flips_change_gains_and_go_back(rt: HostRuntime) -> Result<(), Fail> {
         assert!(&rt; gains.dies().len() == 4);
         assert_eq!(&rt; cut(&problem, gains.dies()), nets);
         has_gains(&rt, &gains, &expected);
+    }
+    Ok(())
+}
+
+// The best of the first slots, slot by slot.
+fn scan(leaves: &[Leader], count: usize) -> Option<Leader> {
+    let mut best: Option<Leader> = None;
+    for leaf in leaves.iter().take(count) {
+        best = match best {
+            Some(held) if (held.key, leaf.cell) > (leaf.key, held.cell) => Some(held),
+            _ => Some(*leaf),
+        };
+    }
+    best
+}
+
+#[test]
+fn first_is_the_best_of_a_scan(rt: HostRuntime) -> Result<(), Fail> {
+    let cells = [CellId(2), CellId(5), CellId(3), CellId(8), CellId(9)];
+    let keys = [4, 7, 7, 1, 9];
+    let mut tournament = Tournament::new(rt.alloc(), &cells)?;
+    assert_eq!(rt; tournament.leaves().len(), 5);
+    for (slot, key) in keys.iter().enumerate() {
+        assert!(rt; slot < tournament.leaves().len());
+        tournament.set(slot, *key);
+    }
+    for count in 0..6 {
+        assert!(rt; count <= tournament.leaves().len());
+        assert_eq!(rt; tournament.first(count), scan(tournament.leaves(), count));
     }
     Ok(())
 }
