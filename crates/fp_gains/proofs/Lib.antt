@@ -1,5 +1,6 @@
 pub mod CutLemmas
 pub mod HoldLemmas
+pub mod LinkLemmas
 pub mod ListLemmas
 pub mod OrderLaws
 pub mod OrderLemmas

@@ -51,6 +51,13 @@ impl Found {
         self.keys.clear();
     }
 
+    // The numbers of the list.
+    fn keys(&self) -> &[u32]
+        ensures { result.now ≡ self.now.keys }
+    {
+        &self.keys
+    }
+
     // Takes a number, unless the list has it.
     fn add(&mut self, key: u32) -> Result<(), AllocError>
         requires { key < self.old.room }
@@ -100,7 +107,7 @@ pub fn cells_by_net(alloc: Global, problem: &Problem) -> Result<Lists, AllocErro
     let mut found = Found::new(alloc, problem.cells() as usize)?;
     for net in 0..problem.nets() {
         find_cells(problem, NetId(net), &mut found)?;
-        lists.push(&found.keys)?;
+        lists.push(found.keys())?;
     }
     Ok(lists)
 }
@@ -113,7 +120,7 @@ pub fn nets_by_cell(alloc: Global, problem: &Problem) -> Result<Lists, AllocErro
     let mut found = Found::new(alloc, problem.nets() as usize)?;
     for cell in 0..problem.cells() {
         find_nets(problem, CellId(cell), &mut found)?;
-        lists.push(&found.keys)?;
+        lists.push(found.keys())?;
     }
     Ok(lists)
 }
