@@ -1,3 +1,4 @@
+pub mod BestLemmas
 pub mod CutLemmas
 pub mod HoldLemmas
 pub mod LinkLemmas

@@ -56,3 +56,9 @@ pub record IsBest (leaves : List Leader) (count : ℕ) (best : Leader) : Type 0 
 abbrev pub IsBestSlot : List Leader → ℕ → Option Leader → Type 0
 IsBestSlot leaves count None = count ≡ 0
 IsBestSlot leaves count (Some best) = IsBest leaves count best
+
+-- the better of two that may be there
+abbrev pub IsBetter : Option Leader → Option Leader → Option Leader → Type 0
+IsBetter None second best = best ≡ second
+IsBetter (Some one) None best = best ≡ Some one
+IsBetter (Some one) (Some other) best = (leader : Leader) × (best ≡ Some leader) × IsWinner one other leader

@@ -1,6 +1,6 @@
 -- How gains are kept: for each net the number of its cells on each die, for each cell a key that rises with its gain, and for each die an
 -- order that shows the keys of the cells which are free to move there.
-use Rattle.std.specs.Prelude.{◌≡◌, ◌≢◌, ℕ, ◌+◌, ◌*◌, ◌^◌, ◌<◌, ◌≤◌, Bool, false, ◌&&◌, not, if◌then◌else◌, List, [], ◌∷◌, length, get_or, slice_index, slice_index_or}
+use Rattle.std.specs.Prelude.{◌≡◌, ◌≢◌, ℕ, ◌+◌, ◌*◌, ◌^◌, ◌<◌, ◌≤◌, Bool, true, false, ◌&&◌, not, if◌then◌else◌, List, [], ◌∷◌, length, replicate, get_or}
 use Rattle.fp_base.specs.declared.ids.Die.{Die}
 use Rattle.fp_base.specs.declared.ids.Die.TheVariants.{Top, Bottom}
 use Rattle.fp_netlist.specs.Netlist.{Netlist}
@@ -14,7 +14,7 @@ use Rattle.fp_gains.specs.Lists.{list_at}
 use Rattle.fp_gains.specs.Links.{holds, AreMembers, AreLinks}
 use Rattle.fp_gains.specs.Sides.{no_sides, sides_of, share}
 use Rattle.fp_gains.specs.Gained.{Gained}
-use Rattle.fp_gains.specs.Ordered.{Ordered, is_in, IsOrderOf}
+use Rattle.fp_gains.specs.Ordered.{Ordered, is_in, IsOrderOf, IsNewOrder}
 
 -- the key of a cell whose move changes nothing
 abbrev pub even : ℕ
@@ -80,6 +80,15 @@ pub record Follow (old new : Ranks) : Type 0 where
 pub record IsRanked (members : List (List ℕ)) (s : State) : Type 0 where
   pub weighed : AreWeighed members s.dies.items s.sides.items s.ranks.keys.items
   pub shown : AreShown s.dies.items s.locked.items s.ranks
+
+-- the state of a problem's cells where they stand, all locked, before the cells of a net are counted
+pub record IsStart (p : Netlist) (dies : List Die) (s : State) : Type 0 where
+  pub dies_are : s.dies.items ≡ dies
+  pub locked : s.locked.items ≡ replicate (length dies) true
+  pub sides : s.sides.items ≡ replicate (length p.nets) no_sides
+  pub keys : s.ranks.keys.items ≡ replicate (length dies) even
+  pub top : IsNewOrder p Top s.ranks.top
+  pub bottom : IsNewOrder p Bottom s.ranks.bottom
 
 -- what gains keep
 pub record IsKept (members nets : List (List ℕ)) (s : State) : Type 0 where

@@ -6,7 +6,8 @@ ghost use Rattle.fp_netlist.specs.Netlist.{Netlist};
 ghost use Rattle.fp_place.specs.Cut.{cut};
 ghost use Rattle.fp_place.specs.Settled.{flipped, first_least, none_moved};
 ghost use Rattle.fp_gains.specs.Gained.{IsGainsOf, is_movable};
-ghost use Rattle.fp_gains.specs.Kept.{even};
+ghost use Rattle.fp_gains.specs.Contests.{IsBetter};
+ghost use Rattle.fp_gains.specs.Kept.{even, IsStart};
 
 use crate::links;
 use crate::lists::Lists;
@@ -126,7 +127,9 @@ fn gain_of(key: u32) -> i64
 }
 
 // The better of two leaders, where there is any.
-fn better(first: Option<Leader>, second: Option<Leader>) -> Option<Leader> {
+fn better(first: Option<Leader>, second: Option<Leader>) -> Option<Leader>
+    ensures { IsBetter first second result }
+{
     match (first, second) {
         (Some(one), Some(other)) => Some(winner(one, other)),
         (Some(one), None) => Some(one),
@@ -137,6 +140,7 @@ fn better(first: Option<Leader>, second: Option<Leader>) -> Option<Leader> {
 // All cells where they stand, locked, with no cell of a net counted.
 fn start(alloc: Global, problem: &Problem, dies: &[Die]) -> Result<State, NoMemory>
     requires { length dies.now ≡ length problem.now.cells }
+    ensures { IfOk result (IsStart problem.now dies.now) }
 {
     let cells = dies.len();
     let ranks = Ranks {
