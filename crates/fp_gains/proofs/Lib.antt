@@ -3,6 +3,7 @@ pub mod CutLemmas
 pub mod HoldLemmas
 pub mod LinkLemmas
 pub mod ListLemmas
+pub mod NewLemmas
 pub mod OrderLaws
 pub mod OrderLemmas
 pub mod RankLemmas

@@ -2,7 +2,7 @@
 
 ghost use Rattle.std.specs.Prelude.{◌≡◌, ℕ, ◌+ℤ◌, ◌<◌, IfOk, pos, false, true, length, map, set};
 ghost use Rattle.std.specs.Option.{option_map};
-ghost use Rattle.fp_netlist.specs.Netlist.{Netlist};
+ghost use Rattle.fp_netlist.specs.Netlist.{Netlist, IsSound};
 ghost use Rattle.fp_place.specs.Cut.{cut};
 ghost use Rattle.fp_place.specs.Settled.{flipped, first_least, none_moved};
 ghost use Rattle.fp_gains.specs.Gained.{IsGainsOf, is_movable};
@@ -140,9 +140,11 @@ fn better(first: Option<Leader>, second: Option<Leader>) -> Option<Leader>
 // All cells where they stand, locked, with no cell of a net counted.
 fn start(alloc: Global, problem: &Problem, dies: &[Die]) -> Result<State, NoMemory>
     requires { length dies.now ≡ length problem.now.cells }
-    ensures { IfOk result (IsStart problem.now dies.now) }
+    ensures state { IfOk result (IsStart problem.now dies.now) }
+    ensures sound { IsSound problem.now }
 {
     let cells = dies.len();
+    let nets = problem.nets() as usize;
     let ranks = Ranks {
         keys: vec![in alloc; EVEN; cells]?,
         top: Order::new(alloc, problem, Die::Top)?,
@@ -151,7 +153,7 @@ fn start(alloc: Global, problem: &Problem, dies: &[Die]) -> Result<State, NoMemo
     Ok(State {
         dies: Vec::from_slice(alloc, dies)?,
         locked: vec![in alloc; true; cells]?,
-        sides: vec![in alloc; Sides { top: 0, bottom: 0 }; problem.nets() as usize]?,
+        sides: vec![in alloc; Sides { top: 0, bottom: 0 }; nets]?,
         ranks,
     })
 }
