@@ -1,5 +1,5 @@
 -- The best cell of both orders is the first whose move leaves the fewest nets cut.
-use Rattle.std.proofs.Common.{◌≡◌, ◌≢◌, ◌==◌, ℕ, zero, suc, ◌+◌, ◌<◌, ◌≤◌, ◌&&◌, not, nat_lt, Bool, true, false, cond, IsTrue, Option, Some, None, List, length, get_or, if◌then◌else◌, refl, sym, ap, subst, ◌∙◌, inl, inr, ◌⊎◌, arith}
+use Rattle.std.proofs.Common.{◌≡◌, ◌==◌, ℕ, zero, suc, ◌+◌, ◌<◌, ◌≤◌, ◌&&◌, not, nat_lt, Bool, true, false, IsTrue, Option, Some, None, List, length, get_or, if◌then◌else◌, refl, sym, ap, subst, ◌∙◌, inl, inr, ◌⊎◌, arith}
 use Rattle.std.specs.Option.{option_map}
 use Rattle.std.proofs.lemmas.Bool.{and_parts, and_from, cases_lt, lt-ltb, ltb-true, le-ltb}
 use Rattle.std.proofs.lemmas.Bool.Decides.{nat_tests}
@@ -14,7 +14,7 @@ use Rattle.fp_place.specs.Cut.{cut}
 use Rattle.fp_place.specs.Settled.{far_die, flipped, is_moved, or_lower, first_least}
 use Rattle.fp_gains.specs.declared.tournament.Leader.{Leader}
 use Rattle.fp_gains.specs.declared.state.State.{State}
-use Rattle.fp_gains.specs.Contests.{IsBehind, IsWinner, IsBetter}
+use Rattle.fp_gains.specs.Contests.{IsBehind, IsBetter}
 use Rattle.fp_gains.specs.Ordered.{Ordered, is_in, key_of, is_open, IsOrderOf, IsBestCell, IsBestOf}
 use Rattle.fp_gains.specs.Gained.{Gained, IsGainsOf, is_movable}
 use Rattle.fp_gains.specs.Kept.{even, is_free, free_key, Shows, IsKept, gained_of}
@@ -39,9 +39,9 @@ first_least_there : (passes : ℕ → Bool) (cost : ℕ → ℕ) (bound k : ℕ)
 unfolding first_least
 first_least_there passes cost zero k e = absurd (let nothing : None ≡ Some k = e in cc)
 first_least_there passes cost (suc bound) k e = elim (some_there passes cost bound k (first_least passes cost bound) e) [
-    | inl before ↦ let is = first_least_there passes cost bound k before in (omega (arith, is.0), is.1)
-    | inr (same, passing) ↦ (omega (arith, same), passing)
-  ]
+  | inl before ↦ let is = first_least_there passes cost bound k before in (omega (arith, is.0), is.1)
+  | inr (same, passing) ↦ (omega (arith, same), passing)
+]
 
 -- where none passes there is none
 first_least_none : (passes : ℕ → Bool) (cost : ℕ → ℕ) (bound : ℕ) → ((k : ℕ) → k < bound → passes k ≡ false) → first_least passes cost bound ≡ None
@@ -81,9 +81,9 @@ first_least_some passes cost (suc bound) best is =
     by true e rest =
         let same : bound ≡ best = grind (arith, nat_tests) in
         takes passes cost bound (first_least passes cost bound) (ap passes same ∙ is.passing) (λ k found.
-            let there = first_least_there passes cost bound k found in
-            let less : cost best < cost k = is.first k (omega (arith, there.0, same)) there.1 in
-            subst (λ j. cost j < cost k) (sym same) less)
+        let there = first_least_there passes cost bound k found in
+        let less : cost best < cost k = is.first k (omega (arith, there.0, same)) there.1 in
+        subst (λ j. cost j < cost k) (sym same) less)
         ∙ ap Some same
     by false e rest =
         let before : best < bound = grind (arith, nat_tests, is.within) in
@@ -134,7 +134,7 @@ open_moves p held g keys die o cell order shows opens =
     let free = free_parts g.dies g.locked die cell shown.free in
     record {
       movable = and_from (not (is_moved g.locked cell)) (fits p cell (far_die g.dies cell) && has_room p held cell (far_die g.dies cell)) free.0
-        (subst (λ d. (fits p cell d && has_room p held cell d) ≡ true) (order.die_is ∙ sym free.1) parts.1);
+          (subst (λ d. (fits p cell d && has_room p held cell d) ≡ true) (order.die_is ∙ sym free.1) parts.1);
       far = free.1;
       key = shown.key;
     }
@@ -172,8 +172,8 @@ leads_behind : (p : Netlist) (held : Held) (o : Ordered) (best leader : Leader) 
 leads_behind p held o best leader is behind = record {
   greatest = λ cell within opens. omega (arith, is.greatest cell within opens, behind.key);
   first = λ cell within opens same.
-    let here : key_of o cell ≡ best.key = omega (arith, is.greatest cell within opens, behind.key) in
-    omega (arith, is.first cell within opens here, behind.cell (omega arith));
+      let here : key_of o cell ≡ best.key = omega (arith, is.greatest cell within opens, behind.key) in
+      omega (arith, is.first cell within opens here, behind.cell (omega arith));
 }
 
 -- the leader of both orders
@@ -206,13 +206,13 @@ two_dies Bottom = inr refl
 beaten : (p : Netlist) (held : Held) (g : Gained) (keys : List ℕ) (leader : Leader) (cell : ℕ) → IsRead p g keys → IsChosen p held g keys leader → cell < length p.cells → is_movable p held g cell ≡ true
     → (get_or keys cell 0 ≤ leader.key) × (get_or keys cell 0 ≡ leader.key → leader.cell.0 ≤ cell)
 beaten p held g keys leader cell read chosen within movable = elim (two_dies (far_die g.dies cell)) [
-    | inl far ↦
+  | inl far ↦
       let at = moves_open p held g keys Top g.top_order cell read.of_problem.top (read.top cell within) within movable far (read.some cell within) in
       (omega (arith, at.key, chosen.top.greatest cell within at.opens), λ same. chosen.top.first cell within at.opens (at.key ∙ same))
-    | inr far ↦
+  | inr far ↦
       let at = moves_open p held g keys Bottom g.bottom_order cell read.of_problem.bottom (read.bottom cell within) within movable far (read.some cell within) in
       (omega (arith, at.key, chosen.bottom.greatest cell within at.opens), λ same. chosen.bottom.first cell within at.opens (at.key ∙ same))
-  ]
+]
 
 pub chosen_first : (p : Netlist) (held : Held) (g : Gained) (keys : List ℕ) (leader : Leader) → IsRead p g keys → IsChosen p held g keys leader
     → IsFirst (is_movable p held g) (λ cell. cut p (flipped g.dies cell)) (length p.cells) leader.cell.0
@@ -220,17 +220,17 @@ chosen_first p held g keys leader read chosen = record {
   within = chosen.within;
   passing = chosen.movable;
   least = λ cell within movable.
-    let is = beaten p held g keys leader cell read chosen within movable in
-    omega (arith, is.0, chosen.key, read.tells cell within, read.tells leader.cell.0 chosen.within);
+      let is = beaten p held g keys leader cell read chosen within movable in
+      omega (arith, is.0, chosen.key, read.tells cell within, read.tells leader.cell.0 chosen.within);
   first = λ cell before movable.
-    let within : cell < length p.cells = omega (arith, chosen.within) in
-    let is = beaten p held g keys leader cell read chosen within movable in
-    elim (cases_lt (get_or keys cell 0) leader.key) [
-      | inl less ↦ omega (arith, less, chosen.key, read.tells cell within, read.tells leader.cell.0 chosen.within)
-      | inr ge ↦
-        let same : get_or keys cell 0 ≡ leader.key = omega (arith, is.0) in
-        absurd (omega (arith, is.1 same))
-    ];
+      let within : cell < length p.cells = omega (arith, chosen.within) in
+      let is = beaten p held g keys leader cell read chosen within movable in
+      elim (cases_lt (get_or keys cell 0) leader.key) [
+        | inl less ↦ omega (arith, less, chosen.key, read.tells cell within, read.tells leader.cell.0 chosen.within)
+        | inr ge ↦
+            let same : get_or keys cell 0 ≡ leader.key = omega (arith, is.0) in
+            absurd (omega (arith, is.1 same))
+      ];
 }
 
 none_movable : (p : Netlist) (held : Held) (g : Gained) (keys : List ℕ) → IsRead p g keys → IsBestOf p held g.top_order None → IsBestOf p held g.bottom_order None
@@ -240,9 +240,9 @@ none_movable p held g keys read no_top no_bottom cell within = by (is_movable p 
     by : (b : Bool) → is_movable p held g cell ≡ b → b ≡ false
     by false e = refl
     by true movable = absurd (elim (two_dies (far_die g.dies cell)) [
-        | inl far ↦ no_top cell within (moves_open p held g keys Top g.top_order cell read.of_problem.top (read.top cell within) within movable far (read.some cell within)).opens
-        | inr far ↦ no_bottom cell within (moves_open p held g keys Bottom g.bottom_order cell read.of_problem.bottom (read.bottom cell within) within movable far (read.some cell within)).opens
-      ])
+      | inl far ↦ no_top cell within (moves_open p held g keys Top g.top_order cell read.of_problem.top (read.top cell within) within movable far (read.some cell within)).opens
+      | inr far ↦ no_bottom cell within (moves_open p held g keys Bottom g.bottom_order cell read.of_problem.bottom (read.bottom cell within) within movable far (read.some cell within)).opens
+    ])
 
 -- the number of a leader's cell
 abbrev pub number_of : Option Leader → Option ℕ

@@ -1,5 +1,5 @@
 -- The number of cut nets, by the cells of each net, and what the move of one cell makes of it.
-use Rattle.std.proofs.Common.{◌≡◌, ◌≢◌, ◌==◌, ℕ, zero, suc, ◌+◌, ◌-◌, ◌*◌, ◌<◌, ◌≤◌, ◌&&◌, ◌||◌, nat_lt, ℤ, pos, ◌+ℤ◌, Bool, true, false, cond, List, [], ◌∷◌, ◌++◌, length, take, get_or, set, map, if◌then◌else◌, refl, sym, ap, subst, ◌∙◌, arith}
+use Rattle.std.proofs.Common.{◌≡◌, ◌≢◌, ◌==◌, ℕ, zero, suc, ◌+◌, ◌-◌, ◌<◌, ◌≤◌, ◌&&◌, ◌||◌, nat_lt, ℤ, pos, ◌+ℤ◌, Bool, true, false, cond, List, [], ◌∷◌, ◌++◌, length, take, get_or, map, if◌then◌else◌, refl, sym, ap, subst, ◌∙◌, arith}
 use Rattle.std.specs.List.{list_any, count_by, AllByRecursion, IsDistinct}
 use Rattle.std.proofs.lemmas.List.{take_more, take_all, get_or_default, get_or-set_same, get_or-set_other}
 use Rattle.std.proofs.lemmas.List.Sums.{sum_by-cons}
@@ -10,7 +10,7 @@ use Rattle.fp_base.specs.declared.ids.Die.{Die}
 use Rattle.fp_base.specs.declared.ids.Die.TheVariants.{Top, Bottom}
 use Rattle.fp_netlist.specs.Netlist.{Netlist, conns_of_net}
 use Rattle.fp_place.specs.Places.{die_at, same_die, other_die}
-use Rattle.fp_place.specs.Cut.{conn_at, is_on, touches, is_cut, cut_below, cut}
+use Rattle.fp_place.specs.Cut.{conn_at, touches, is_cut, cut_below, cut}
 use Rattle.fp_place.specs.Settled.{far_die, flipped}
 use Rattle.fp_gains.specs.declared.sides.Sides.{Sides}
 use Rattle.fp_gains.specs.declared.state.State.{State}
@@ -224,7 +224,7 @@ kept_gain p members nets s g x key gain kept view is within key_is tells =
     let P : Gained → Type 0 = λ h. IsGainsOf p h → x < length h.dies → pos (cut p h.dies) ≡ (pos (cut p (flipped h.dies x)) +ℤ gain) in
     subst P view
     (λ is within.
-        let there : x < length s.ranks.keys.items = omega (arith, kept.ranked.weighed.all_cells) in
-        gain_tells p (gained_of members s) s.sides.items s.ranks.keys.items (length s.dies.items) x gain is kept.members_are kept.ranked.weighed kept.counted within
-        (ap pos (sym (key_is ∙ get_or_default s.ranks.keys.items x key 0 there)) ∙ tells))
+    let there : x < length s.ranks.keys.items = omega (arith, kept.ranked.weighed.all_cells) in
+    gain_tells p (gained_of members s) s.sides.items s.ranks.keys.items (length s.dies.items) x gain is kept.members_are kept.ranked.weighed kept.counted within
+    (ap pos (sym (key_is ∙ get_or_default s.ranks.keys.items x key 0 there)) ∙ tells))
     is within

@@ -1,11 +1,11 @@
 -- Lists that hold a key.
-use Rattle.std.proofs.Common.{◌≡◌, ◌≢◌, ◌==◌, ℕ, zero, suc, ◌+◌, ◌<◌, ◌||◌, Bool, true, false, List, [], ◌∷◌, ◌++◌, length, take, get_or, if◌then◌else◌, refl, sym, ap, subst, ◌∙◌, inl, inr, arith}
+use Rattle.std.proofs.Common.{◌≡◌, ◌==◌, ℕ, ◌+◌, ◌<◌, ◌||◌, Bool, true, false, List, [], ◌∷◌, ◌++◌, length, take, get_or, if◌then◌else◌, refl, sym, ap, subst, ◌∙◌, inl, inr, arith}
 use Rattle.std.specs.List.{list_any, IsDistinct, All}
 use Rattle.std.proofs.lemmas.List.{get_or-take, get_or_default, length-take-le}
 use Rattle.std.proofs.lemmas.List.Elements.{All-head, All-tail}
 use Rattle.std.proofs.lemmas.List.Folds.{list_any_more, list_any_none, list_any-append}
 use Rattle.std.proofs.lemmas.Map.Keys.{apart_from_distinct}
-use Rattle.std.proofs.lemmas.Bool.{or_cases, or_left, or_right, cases_Bool}
+use Rattle.std.proofs.lemmas.Bool.{or_cases, or_left, or_right}
 use Rattle.std.proofs.lemmas.Bool.Decides.{nat_tests}
 use Rattle.fp_gains.specs.Links.{holds, with_new, with_all_new, distinct}
 
@@ -34,17 +34,17 @@ same_true a = grind (arith, nat_tests)
 pub held_is : (P : ℕ → Type 0) (keys : List ℕ) (key : ℕ) → All P keys → holds keys key ≡ true → P key
 held_is P [] key all held = absurd (let nothing : false ≡ true = held in cc)
 held_is P (x ∷ xs) key all held = elim (or_cases (key == x) (holds xs key) held) [
-    | inl same ↦ subst P (sym (same_key key x same)) (All-head P x xs all)
-    | inr later ↦ held_is P xs key (All-tail P x xs all) later
-  ]
+  | inl same ↦ subst P (sym (same_key key x same)) (All-head P x xs all)
+  | inr later ↦ held_is P xs key (All-tail P x xs all) later
+]
 
 -- where a list holds a key that passes a test, one of the list passes it
 pub held_passes : (test : ℕ → Bool) (keys : List ℕ) (key : ℕ) → holds keys key ≡ true → test key ≡ true → list_any test keys ≡ true
 held_passes test [] key held passes = absurd (let nothing : false ≡ true = held in cc)
 held_passes test (x ∷ xs) key held passes = elim (or_cases (key == x) (holds xs key) held) [
-    | inl same ↦ or_left (test x) (list_any test xs) (ap test (sym (same_key key x same)) ∙ passes)
-    | inr later ↦ or_right (test x) (list_any test xs) (held_passes test xs key later passes)
-  ]
+  | inl same ↦ or_left (test x) (list_any test xs) (ap test (sym (same_key key x same)) ∙ passes)
+  | inr later ↦ or_right (test x) (list_any test xs) (held_passes test xs key later passes)
+]
 
 or_nothing : (b : Bool) → (b || false) ≡ b
 or_nothing true = refl

@@ -1,5 +1,5 @@
 -- The distinct cells of each net and the distinct nets of each cell, found step by step, and that they agree.
-use Rattle.std.proofs.Common.{◌≡◌, ◌==◌, ℕ, zero, suc, ◌+◌, ◌<◌, ◌≤◌, ◌^◌, ◌||◌, ◌&&◌, Bool, true, false, Option, Some, List, [], ◌∷◌, ◌++◌, length, map, drop, get_or, nat_lt, if◌then◌else◌, refl, sym, ap, subst, ◌∙◌, arith}
+use Rattle.std.proofs.Common.{◌≡◌, ◌==◌, ℕ, suc, ◌+◌, ◌<◌, ◌≤◌, ◌^◌, ◌||◌, ◌&&◌, Bool, true, false, Some, List, [], ◌∷◌, ◌++◌, length, map, drop, get_or, nat_lt, if◌then◌else◌, refl, sym, ap, subst, ◌∙◌, arith}
 use Rattle.std.specs.Prelude.{slice_get}
 use Rattle.std.specs.Cmp.{nat_eq_equiv}
 use Rattle.std.specs.List.{All, list_any, IsDistinct}
@@ -14,7 +14,7 @@ use Rattle.fp_netlist.specs.Netlist.{Netlist, ids_where, conns_of_net, conns_of_
 use Rattle.fp_netlist.specs.NetlistLaws.{net_conns_within, cell_conns_within}
 use Rattle.fp_place.specs.Cut.{no_conn, conn_at}
 use Rattle.fp_gains.specs.Lists.{list_at}
-use Rattle.fp_gains.specs.Links.{holds, with_new, with_all_new, distinct, cells_of, nets_of, cells_of_net, nets_of_cell, AreCellsByNet, AreNetsByCell, AreMembers, AreLinks, Finding, FindsKeys, AreStamped, with_key_new}
+use Rattle.fp_gains.specs.Links.{holds, with_new, with_all_new, distinct, cells_of, nets_of, cells_of_net, nets_of_cell, AreCellsByNet, AreNetsByCell, AreMembers, AreLinks, Finding, FindsKeys, with_key_new}
 use Rattle.fp_gains.proofs.HoldLemmas.{any_distinct}
 
 abbrev pub conn_id : ℕ → ConnId
@@ -58,10 +58,10 @@ finding_more key p from now new conns i read goal are within at new_is = record 
   room = ap (λ f. f.room) new_is ∙ are.room;
   mark = ap (λ f. f.mark) new_is ∙ are.mark;
   all =
-    ap (λ found. with_all_new found (keys_by key p (drop (i + 1) conns))) (ap (λ f. f.keys) new_is)
-    ∙ ap (λ c. with_all_new (with_new now.keys (key c)) (keys_by key p (drop (i + 1) conns))) (sym (conn_read p (get_or conns i (conn_id 0)).0 read at))
-    ∙ sym (ap (λ left. with_all_new now.keys (keys_by key p left)) (drop_more conns i (conn_id 0) within))
-    ∙ are.all;
+      ap (λ found. with_all_new found (keys_by key p (drop (i + 1) conns))) (ap (λ f. f.keys) new_is)
+      ∙ ap (λ c. with_all_new (with_new now.keys (key c)) (keys_by key p (drop (i + 1) conns))) (sym (conn_read p (get_or conns i (conn_id 0)).0 read at))
+      ∙ sym (ap (λ left. with_all_new now.keys (keys_by key p left)) (drop_more conns i (conn_id 0) within))
+      ∙ are.all;
 }
 
 pub finding_all : (key : Conn → ℕ) (p : Netlist) (from now : Finding) (conns : List ConnId) (i : ℕ) (goal : List ℕ) → IsFinding key p from goal (drop i conns) now → length conns ≤ i → FindsKeys goal from now
@@ -233,12 +233,12 @@ links_of_problem p members nets sound members_are are = record {
   few_cells = sound.few_cells;
   all_cells = are.all_cells;
   within = within_or_none (All (λ net. net < length members)) nets (nets_of_cell p) (All-nil (λ net. net < length members))
-    (λ cell. subst (λ n. All (λ net. net < n) (nets_of_cell p cell)) (sym members_are.all_nets) (nets_within p cell sound)) each;
+      (λ cell. subst (λ n. All (λ net. net < n) (nets_of_cell p cell)) (sym members_are.all_nets) (nets_within p cell sound)) each;
   once = within_or_none (IsDistinct (λ a b. a == b)) nets (nets_of_cell p) none_once (nets_once p) each;
   agree = λ cell net less_cell less_net.
-    ap (λ ns. holds ns net) (are.each cell less_cell)
-    ∙ agree p cell net
-    ∙ ap (λ cs. holds cs cell) (sym (members_are.each net (omega (arith, members_are.all_nets))));
+      ap (λ ns. holds ns net) (are.each cell less_cell)
+      ∙ agree p cell net
+      ∙ ap (λ cs. holds cs cell) (sym (members_are.each net (omega (arith, members_are.all_nets))));
 }
   where
     each : (cell : ℕ) → cell < length nets → list_at nets cell ≡ nets_of_cell p cell

@@ -1,7 +1,7 @@
 -- Lists in one flat list: their number, each of them, and one more behind them.
 use Rattle.std.proofs.Common.{◌≡◌, ℕ, zero, suc, ◌+◌, ◌-◌, ◌<◌, ◌≤◌, List, [], ◌∷◌, ◌++◌, length, take, drop, get_or, refl, sym, ap, subst, ◌∙◌, arith}
 use Rattle.std.specs.List.{slice_range}
-use Rattle.std.proofs.lemmas.List.{length_push, get_or_push, get_or_append_left, length-append, drop-append-le, take-append-le, length-drop, drop_at, take_all}
+use Rattle.std.proofs.lemmas.List.{length-append, drop-append-le, take-append-le, length-drop, drop_at, take_all}
 use Rattle.fp_gains.specs.Lists.{parts_from, parts, AreStarts, list_at}
 
 parts_many_from : (start : ℕ) (ends items : List ℕ) → length (parts_from start ends items) ≡ length ends

@@ -1,6 +1,6 @@
 -- Gains as they are made: all cells locked and no cell of a net counted, then counted, then unlocked.
 use Rattle.std.proofs.Common.{◌≡◌, ℕ, zero, suc, ◌+◌, ◌<◌, Bool, true, false, not, ◌&&◌, List, ◌∷◌, length, replicate, map, get_or, if◌then◌else◌, refl, sym, ap, subst, ◌∙◌, arith}
-use Rattle.std.proofs.lemmas.List.{length-replicate, get_or-replicate, length-map}
+use Rattle.std.proofs.lemmas.List.{length-replicate, get_or-replicate}
 use Rattle.fp_base.specs.declared.ids.Die.{Die}
 use Rattle.fp_base.specs.declared.ids.Die.TheVariants.{Top, Bottom}
 use Rattle.fp_netlist.specs.Netlist.{Netlist, IsSound}
@@ -10,8 +10,7 @@ use Rattle.fp_gains.specs.declared.state.State.{State}
 use Rattle.fp_gains.specs.Links.{AreCellsByNet, AreNetsByCell, AreMembers, AreLinks}
 use Rattle.fp_gains.specs.Sides.{no_sides}
 use Rattle.fp_gains.specs.Ordered.{Ordered, is_in, key_of, IsNewOrder}
-use Rattle.fp_gains.specs.Gained.{Gained, IsGainsOf}
-use Rattle.fp_gains.specs.Kept.{even, shares, degree, free_key, Shows, AreShown, AreCounted, IsStart, IsRanked, IsKept, gained_of}
+use Rattle.fp_gains.specs.Kept.{even, shares, degree, free_key, Shows, AreShown, AreCounted, IsStart, IsRanked, IsKept}
 use Rattle.fp_gains.specs.Changes.{Stands, Lies}
 use Rattle.fp_gains.proofs.WeightLemmas.{shares_none}
 use Rattle.fp_gains.proofs.LinkLemmas.{members_of_problem, links_of_problem}
@@ -33,10 +32,10 @@ start_ranked p members dies s is are cells = record {
     all_cells = all_keys;
     all_nets = ap length is.sides ∙ length-replicate (length p.nets) no_sides ∙ sym are.all_nets;
     each = λ cell less.
-      let key : get_or s.ranks.keys.items cell 0 ≡ even = ap (λ ks. get_or ks cell 0) is.keys ∙ get_or-replicate (length dies) cell even 0 (omega (arith, ap length is.dies_are)) in
-      let sides : s.sides.items ≡ replicate (length members) no_sides = is.sides ∙ ap (λ n. replicate n no_sides) (sym are.all_nets) in
-      let none : shares (die_at s.dies.items cell) cell members s.sides.items ≡ degree cell members = ap (shares (die_at s.dies.items cell) cell members) sides ∙ shares_none (die_at s.dies.items cell) cell members in
-      omega (arith, key, none);
+        let key : get_or s.ranks.keys.items cell 0 ≡ even = ap (λ ks. get_or ks cell 0) is.keys ∙ get_or-replicate (length dies) cell even 0 (omega (arith, ap length is.dies_are)) in
+        let sides : s.sides.items ≡ replicate (length members) no_sides = is.sides ∙ ap (λ n. replicate n no_sides) (sym are.all_nets) in
+        let none : shares (die_at s.dies.items cell) cell members s.sides.items ≡ degree cell members = ap (shares (die_at s.dies.items cell) cell members) sides ∙ shares_none (die_at s.dies.items cell) cell members in
+        omega (arith, key, none);
   };
   shown = record {
     all_cells = all_keys;
@@ -95,9 +94,9 @@ made_kept p dies members nets s t n is = record {
       all_cells = ap length is.lies.keys ∙ is.ranked.weighed.all_cells ∙ sym (ap length same_dies);
       all_nets = ap length same_sides ∙ is.ranked.weighed.all_nets;
       each = λ cell less.
-        ap (λ ks. get_or ks cell 0 + degree cell members) is.lies.keys
-        ∙ is.ranked.weighed.each cell (omega (arith, ap length same_dies))
-        ∙ sym (ap (λ ds. even + shares (die_at ds cell) cell members n.sides.items) same_dies ∙ ap (λ ss. even + shares (die_at t.dies.items cell) cell members ss) same_sides);
+          ap (λ ks. get_or ks cell 0 + degree cell members) is.lies.keys
+          ∙ is.ranked.weighed.each cell (omega (arith, ap length same_dies))
+          ∙ sym (ap (λ ds. even + shares (die_at ds cell) cell members n.sides.items) same_dies ∙ ap (λ ss. even + shares (die_at t.dies.items cell) cell members ss) same_sides);
     };
     shown = is.shown;
   };

@@ -1,20 +1,20 @@
 -- Steps of what changes in gains.
-use Rattle.std.proofs.Common.{◌≡◌, ◌≢◌, ◌==◌, ℕ, zero, suc, ◌+◌, ◌-◌, ◌*◌, ◌^◌, ◌<◌, ◌≤◌, ◌||◌, Bool, true, false, cond, List, [], ◌∷◌, ◌++◌, length, take, drop, map, get_or, set, if◌then◌else◌, refl, sym, ap, subst, ◌∙◌, arith}
-use Rattle.std.specs.List.{All, IsDistinct}
-use Rattle.std.proofs.lemmas.List.{length-set, get_or-set_same, get_or-set_other, get_or_default, set-get_or, take_all, drop_all, append-nil}
+use Rattle.std.proofs.Common.{◌≡◌, ◌≢◌, ◌==◌, ℕ, zero, suc, ◌+◌, ◌-◌, ◌*◌, ◌^◌, ◌<◌, ◌≤◌, ◌||◌, Bool, true, false, List, [], ◌∷◌, ◌++◌, length, take, drop, map, get_or, set, if◌then◌else◌, refl, sym, ap, subst, ◌∙◌, arith}
+use Rattle.std.specs.List.{IsDistinct}
+use Rattle.std.proofs.lemmas.List.{length-set, get_or-set_same, get_or-set_other, get_or_default, take_all, drop_all, append-nil}
 use Rattle.std.proofs.lemmas.List.Sums.{count_by-le-length}
 use Rattle.std.proofs.lemmas.List.Folds.{list_any_at}
 use Rattle.std.proofs.lemmas.Bool.Decides.{nat_tests}
 use Rattle.fp_base.specs.declared.ids.Die.{Die}
 use Rattle.fp_base.specs.declared.ids.Die.TheVariants.{Top, Bottom}
-use Rattle.fp_place.specs.Places.{die_at, same_die, other_die}
+use Rattle.fp_place.specs.Places.{die_at, same_die}
 use Rattle.fp_place.specs.Settled.{far_die, flipped}
 use Rattle.fp_gains.specs.declared.sides.Sides.{Sides}
 use Rattle.fp_gains.specs.declared.state.State.{State}
 use Rattle.fp_gains.specs.Lists.{list_at}
 use Rattle.fp_gains.specs.Links.{holds, AreMembers, AreLinks}
 use Rattle.fp_gains.specs.Sides.{no_sides, count_on, on_die, sides_of, moved, share}
-use Rattle.fp_gains.specs.Kept.{even, shares, degree, AreWeighed, AreCounted, AreShown, IsRanked, IsKept}
+use Rattle.fp_gains.specs.Kept.{even, shares, degree, AreWeighed, AreShown, IsRanked, IsKept}
 use Rattle.fp_gains.specs.Changes.{AreInRange, part, AreReweighed, CanTurn, AreTurned, Stands, Lies}
 use Rattle.fp_gains.proofs.HoldLemmas.{holds_more, not_before, same_true, held_is}
 use Rattle.fp_gains.proofs.WeightLemmas.{shares_set, degree_le, shares_le, share_turned, shares_turned}
@@ -41,11 +41,11 @@ weighed_set members dies sides old new cells net before after are within cells_a
   all_cells = reweighed.many ∙ are.all_cells;
   all_nets = length-set sides net after ∙ are.all_nets;
   each = λ cell less.
-    let there : net < length sides = omega (arith, are.all_nets) in
-    let is : before ≡ get_or sides net no_sides = before_is ∙ get_or_default sides net before no_sides there in
-    let part_before : part dies cells before cell ≡ part dies (list_at members net) (get_or sides net no_sides) cell = ap (λ cs. part dies cs before cell) cells_are ∙ ap (λ s. part dies (list_at members net) s cell) is in
-    let part_after : part dies cells after cell ≡ part dies (list_at members net) after cell = ap (λ cs. part dies cs after cell) cells_are in
-    omega (arith, are.each cell less, reweighed.each cell less, part_before, part_after, shares_set (die_at dies cell) cell net members sides after are.all_nets within);
+      let there : net < length sides = omega (arith, are.all_nets) in
+      let is : before ≡ get_or sides net no_sides = before_is ∙ get_or_default sides net before no_sides there in
+      let part_before : part dies cells before cell ≡ part dies (list_at members net) (get_or sides net no_sides) cell = ap (λ cs. part dies cs before cell) cells_are ∙ ap (λ s. part dies (list_at members net) s cell) is in
+      let part_after : part dies cells after cell ≡ part dies (list_at members net) after cell = ap (λ cs. part dies cs after cell) cells_are in
+      omega (arith, are.each cell less, reweighed.each cell less, part_before, part_after, shares_set (die_at dies cell) cell net members sides after are.all_nets within);
 }
 
 -- where both numbers weigh as much, the keys stay
@@ -118,7 +118,7 @@ turned_more nets die old now new i read after are less within read_is after_is n
         ∙ after_is
         ∙ ap (λ s. moved s die) read_is
         ∙ sym (ap (λ b. if b then moved (get_or old (get_or nets i 0) no_sides) die else get_or old (get_or nets i 0) no_sides)
-          (holds_more nets i (get_or nets i 0) less ∙ ap (λ b. holds (take i nets) (get_or nets i 0) || b) (same_true (get_or nets i 0)) ∙ or_true (holds (take i nets) (get_or nets i 0))))
+        (holds_more nets i (get_or nets i 0) less ∙ ap (λ b. holds (take i nets) (get_or nets i 0) || b) (same_true (get_or nets i 0)) ∙ or_true (holds (take i nets) (get_or nets i 0))))
 
     by : (net : ℕ) → net < length old → (b : Bool) → (net == get_or nets i 0) ≡ b → IsTurnedAt (take (i + 1) nets) die old new net
     by net there true e =
@@ -130,7 +130,7 @@ turned_more nets die old now new i read after are less within read_is after_is n
         ∙ get_or-set_other now (get_or nets i 0) net after no_sides other
         ∙ are.each net there
         ∙ sym (ap (λ b. if b then moved (get_or old net no_sides) die else get_or old net no_sides)
-          (holds_more nets i net less ∙ ap (λ b. holds (take i nets) net || b) e ∙ or_false (holds (take i nets) net)))
+        (holds_more nets i net less ∙ ap (λ b. holds (take i nets) net || b) e ∙ or_false (holds (take i nets) net)))
 
 pub turned_all : (nets : List ℕ) (die : Die) (old now : List Sides) (i : ℕ) → length nets ≤ i → AreTurned (take i nets) die old now → AreTurned nets die old now
 turned_all nets die old now i all are = subst (λ ns. AreTurned ns die old now) (take_all i nets all) are
@@ -177,11 +177,11 @@ moved_shares : (members nets : List (List ℕ)) (s t n : State) (x : ℕ) → Is
     → shares (die_at s.dies.items x) x members s.sides.items + shares (far_die s.dies.items x) x members t.sides.items ≡ 2 * degree x members
 moved_shares members nets s t n x kept within is =
     shares_turned (die_at s.dies.items x) x members s.sides.items t.sides.items kept.ranked.weighed.all_nets is.ranked.weighed.all_nets (λ net less in_it.
-        let moves = sides_move s.dies.items x (list_at members net) within (kept.members_are.once net) in_it in
-        let after : get_or t.sides.items net no_sides ≡ moved (sides_of s.dies.items (list_at members net)) (die_at s.dies.items x) = moved_counted members nets s t n x kept within is net less ∙ moves.1 in
-        ap (λ sides. share (die_at s.dies.items x) sides + share (far_die s.dies.items x) (get_or t.sides.items net no_sides)) (kept.counted net less)
-        ∙ ap (λ sides. share (die_at s.dies.items x) (sides_of s.dies.items (list_at members net)) + share (far_die s.dies.items x) sides) after
-        ∙ share_turned (die_at s.dies.items x) (sides_of s.dies.items (list_at members net)) moves.0)
+    let moves = sides_move s.dies.items x (list_at members net) within (kept.members_are.once net) in_it in
+    let after : get_or t.sides.items net no_sides ≡ moved (sides_of s.dies.items (list_at members net)) (die_at s.dies.items x) = moved_counted members nets s t n x kept within is net less ∙ moves.1 in
+    ap (λ sides. share (die_at s.dies.items x) sides + share (far_die s.dies.items x) (get_or t.sides.items net no_sides)) (kept.counted net less)
+    ∙ ap (λ sides. share (die_at s.dies.items x) (sides_of s.dies.items (list_at members net)) + share (far_die s.dies.items x) sides) after
+    ∙ share_turned (die_at s.dies.items x) (sides_of s.dies.items (list_at members net)) moves.0)
 
 moved_weighed : (members nets : List (List ℕ)) (s t n : State) (x : ℕ) → IsKept members nets s → x < length s.dies.items → IsMoved members nets s t n x
     → AreWeighed members (flipped s.dies.items x) t.sides.items (set t.ranks.keys.items x (2 * even - get_or s.ranks.keys.items x 0))
@@ -230,9 +230,9 @@ moved_kept members nets s t n x kept within is = record {
     shown = is.shown;
   };
   counted = λ net less.
-    ap (λ ss. get_or ss net no_sides) same_sides
-    ∙ moved_counted members nets s t n x kept within is net less
-    ∙ ap (λ ds. sides_of ds (list_at members net)) (sym is.dies);
+      ap (λ ss. get_or ss net no_sides) same_sides
+      ∙ moved_counted members nets s t n x kept within is net less
+      ∙ ap (λ ds. sides_of ds (list_at members net)) (sym is.dies);
 }
   where
     many : length n.dies.items ≡ length s.dies.items
@@ -244,7 +244,6 @@ moved_kept members nets s t n x kept within is = record {
 -- every cell of a front is unlocked, one more or as it was
 pub unlocked_none : (locked : List Bool) → locked ≡ map (λ _. false) (take 0 locked) ++ drop 0 locked
 unlocked_none locked = refl
-
 
 pub unlocked_more : (old : List Bool) (i : ℕ) → i < length old
     → set (map (λ (b : Bool). false) (take i old) ++ drop i old) i false ≡ map (λ (b : Bool). false) (take (i + 1) old) ++ drop (i + 1) old

@@ -1,10 +1,10 @@
 -- The sums of the shares of a cell's nets.
-use Rattle.std.proofs.Common.{◌≡◌, ℕ, zero, suc, ◌+◌, ◌-◌, ◌*◌, ◌<◌, ◌≤◌, Bool, true, false, List, [], ◌∷◌, length, replicate, get_or, set, map, if◌then◌else◌, refl, sym, ap, subst, ◌∙◌, arith}
+use Rattle.std.proofs.Common.{◌≡◌, ℕ, zero, suc, ◌+◌, ◌-◌, ◌*◌, ◌<◌, ◌≤◌, Bool, true, false, List, [], ◌∷◌, length, replicate, get_or, set, map, if◌then◌else◌, refl, sym, ap, ◌∙◌, arith}
 use Rattle.std.proofs.lemmas.List.{ext_get_or, length-map, get_or-map}
 use Rattle.std.proofs.lemmas.Bool.Decides.{nat_tests}
 use Rattle.fp_base.specs.declared.ids.Die.{Die}
 use Rattle.fp_base.specs.declared.ids.Die.TheVariants.{Top, Bottom}
-use Rattle.fp_place.specs.Places.{die_at, other_die}
+use Rattle.fp_place.specs.Places.{other_die}
 use Rattle.fp_gains.specs.declared.sides.Sides.{Sides}
 use Rattle.fp_gains.specs.Lists.{list_at}
 use Rattle.fp_gains.specs.Links.{holds}
@@ -14,7 +14,7 @@ use Rattle.fp_gains.specs.Kept.{shares, degree, AreCounted}
 -- one net's numbers of cells changed
 pub shares_set : (die : Die) (cell net : ℕ) (members : List (List ℕ)) (sides : List Sides) (after : Sides) → length sides ≡ length members → net < length members
     → shares die cell members (set sides net after) + (if holds (list_at members net) cell then share die (get_or sides net no_sides) else 0)
-        ≡ shares die cell members sides + (if holds (list_at members net) cell then share die after else 0)
+    ≡ shares die cell members sides + (if holds (list_at members net) cell then share die after else 0)
 unfolding shares
 shares_set die cell net [] sides after many within = absurd (omega arith)
 shares_set die cell net (cells ∷ others) [] after many within = absurd (omega arith)
@@ -69,7 +69,6 @@ share_by_turned here there some = grind (arith, nat_tests)
 pub share_turned : (die : Die) (sides : Sides) → 0 < count_on sides die → share die sides + share (other_die die) (moved sides die) ≡ 2
 share_turned Top sides some = share_by_turned sides.top sides.bottom some
 share_turned Bottom sides some = share_by_turned sides.bottom sides.top some
-
 
 pub shares_turned : (die : Die) (cell : ℕ) (members : List (List ℕ)) (before after : List Sides) → length before ≡ length members → length after ≡ length members
     → ((net : ℕ) → net < length members → holds (list_at members net) cell ≡ true → share die (get_or before net no_sides) + share (other_die die) (get_or after net no_sides) ≡ 2)

@@ -1,5 +1,5 @@
 -- How gains change, step by step.
-use Rattle.std.specs.Prelude.{◌≡◌, ℕ, ◌+◌, ◌^◌, ◌<◌, ◌≤◌, Bool, true, if◌then◌else◌, List, length, get_or}
+use Rattle.std.specs.Prelude.{◌≡◌, ℕ, ◌+◌, ◌^◌, ◌<◌, ◌≤◌, true, if◌then◌else◌, List, length, get_or}
 use Rattle.fp_base.specs.declared.ids.Die.{Die}
 use Rattle.fp_place.specs.Places.{die_at}
 use Rattle.fp_gains.specs.declared.sides.Sides.{Sides}

@@ -1,5 +1,5 @@
 -- The distinct cells of each net, and the distinct nets of each cell.
-use Rattle.std.specs.Prelude.{◌≡◌, ℕ, ◌+◌, ◌<◌, ◌≤◌, ◌^◌, Bool, true, ◌==◌, if◌then◌else◌, List, [], ◌∷◌, ◌++◌, length, map, All, slice_index}
+use Rattle.std.specs.Prelude.{◌≡◌, ℕ, ◌+◌, ◌<◌, ◌≤◌, ◌^◌, Bool, ◌==◌, if◌then◌else◌, List, [], ◌∷◌, ◌++◌, length, map, All, slice_index}
 use Rattle.std.specs.List.{list_any, IsDistinct}
 use Rattle.fp_netlist.specs.Netlist.{Netlist, conns_of_net, conns_of_cell}
 use Rattle.fp_place.specs.Cut.{conn_at}

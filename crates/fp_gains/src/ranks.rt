@@ -32,8 +32,10 @@ impl Ranks {
         ensures follow { Follow self.old self.new }
     {
         self.keys[cell.0 as usize] = key;
-        self.top.set(cell, free_key(dies, locked, key, Die::Top, cell));
-        self.bottom.set(cell, free_key(dies, locked, key, Die::Bottom, cell));
+        self.top
+            .set(cell, free_key(dies, locked, key, Die::Top, cell));
+        self.bottom
+            .set(cell, free_key(dies, locked, key, Die::Bottom, cell));
     }
 
     /// Gives each of these cells the key that its net's numbers of cells after a change make of the key by those before.

@@ -82,7 +82,10 @@ fn count_on(dies: &[Die], die: Die, cells: &[u32]) -> u32
     requires few { length cells.now ≤ 2 ^ 21 }
     ensures { result ≡ on_die dies.now die cells.now }
 {
-    cells.iter().filter(|cell| dies[**cell as usize] == die).count() as u32
+    cells
+        .iter()
+        .filter(|cell| dies[**cell as usize] == die)
+        .count() as u32
 }
 
 // One more than what a net with so many cells here and there loses in cuts when one goes there.

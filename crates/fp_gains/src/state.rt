@@ -35,7 +35,8 @@ impl State {
         self.sides[net] = after;
         if !before.weighs_as(after) {
             let cells = members.list(net);
-            self.ranks.reweigh(&self.dies, &self.locked, cells, before, after);
+            self.ranks
+                .reweigh(&self.dies, &self.locked, cells, before, after);
         }
     }
 

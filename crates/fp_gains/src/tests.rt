@@ -52,7 +52,11 @@ fn small_dies(rt: &impl Abort, alloc: Global, book: TechBook) -> Result<Dies, Fa
 }
 
 /// Adds so many cells.
-fn add_cells(builder: &mut ProblemBuilder, lib: LibId, names: &[[u8; 1]]) -> Result<(), BuildFault> {
+fn add_cells(
+    builder: &mut ProblemBuilder,
+    lib: LibId,
+    names: &[[u8; 1]],
+) -> Result<(), BuildFault> {
     for name in names {
         builder.add_inst(name, lib)?;
     }

@@ -1,4 +1,4 @@
-use Rattle.std.proofs.Common.{◌∷◌, [], length, ◌∙◌, ap, arith}
+use Rattle.std.proofs.Common.{length, ◌∙◌, ap, arith}
 use Rattle.std.proofs.lemmas.List.{length_push}
 use Rattle.fp_gains.specs.Links.{cells_of_net}
 use Rattle.fp_gains.proofs.LinkLemmas.{list_more}

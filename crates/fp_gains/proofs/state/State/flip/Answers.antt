@@ -2,7 +2,7 @@ use Rattle.std.proofs.Common.{◌≡◌, ◌*◌, ◌-◌, ◌∙◌, get_or, se
 use Rattle.std.proofs.lemmas.List.{get_or_default}
 use Rattle.fp_base.specs.declared.ids.Die.TheVariants.{Top}
 use Rattle.fp_place.specs.Places.{die_at, other_die}
-use Rattle.fp_place.specs.Settled.{far_die, flipped}
+use Rattle.fp_place.specs.Settled.{far_die}
 use Rattle.fp_gains.specs.Lists.{list_at}
 use Rattle.fp_gains.specs.Kept.{even, AreShown}
 use Rattle.fp_gains.specs.Changes.{CanTurn, AreTurned}
@@ -28,7 +28,7 @@ returns-clause-kept c =
     let other_is : c.other.result ≡ far_die c.args.self.now.dies.items c.args.cell.0 = c.other.ensures ∙ ap other_die die_is in
     moved_kept c.args.members.now c.args.nets.now c.args.self.now c.turn_nets.new.self _ c.args.cell.0 c.requires.kept c.requires.cell (record {
       turned = subst (λ nets. AreTurned nets (die_at c.args.self.now.dies.items c.args.cell.0) c.args.self.now.sides.items c.turn_nets.new.self.sides.items) c.list.ensures
-        (subst (λ die. AreTurned c.list.result.now die c.args.self.now.sides.items c.turn_nets.new.self.sides.items) die_is c.turn_nets.ensures.sides);
+          (subst (λ die. AreTurned c.list.result.now die c.args.self.now.sides.items c.turn_nets.new.self.sides.items) die_is c.turn_nets.ensures.sides);
       ranked = c.turn_nets.ensures.ranked;
       stands = c.turn_nets.ensures.stands;
       dies = ap (λ dies. set dies c.args.cell.0 c.other.result) (ap (λ dies. dies.items) c.turn_nets.ensures.stands.dies) ∙ ap (set c.args.self.now.dies.items c.args.cell.0) other_is;

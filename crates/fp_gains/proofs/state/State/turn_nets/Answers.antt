@@ -1,4 +1,4 @@
-use Rattle.std.proofs.Common.{◌∙◌, ap, arith}
+use Rattle.std.proofs.Common.{arith}
 use Rattle.fp_gains.proofs.StateLemmas.{turn_read, turned_more, stands_more}
 use Rattle.fp_gains.proofs.state.State.turn_nets.Goals as goal
 
@@ -19,7 +19,7 @@ loop-net-preserved c =
     (omega (arith, c.requires.ranked.weighed.all_nets)) c.index.ensures in
     record {
       sides = turned_more c.args.nets.now c.args.die c.args.self.now.sides.items c.loop-net.self.sides.items c.set_sides.new.self.sides.items c.loop-net.net-index c.index.result.now c.moved-after.result
-      c.loop-net.invariant.sides c.loop-net-test.true (omega (arith, c.requires.ranked.weighed.all_nets)) next.is c.moved-after.ensures c.set_sides.ensures.sides;
+          c.loop-net.invariant.sides c.loop-net-test.true (omega (arith, c.requires.ranked.weighed.all_nets)) next.is c.moved-after.ensures c.set_sides.ensures.sides;
       ranked = c.set_sides.ensures.ranked;
       stands = stands_more c.args.self.now c.loop-net.self c.set_sides.new.self c.loop-net.invariant.stands c.set_sides.ensures.stands;
     }
