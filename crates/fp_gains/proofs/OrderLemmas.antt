@@ -1,9 +1,9 @@
 -- An order kept by places and a tournament: how many cells have room, setting a key, and the best cell.
-use Rattle.std.proofs.Common.{◌≡◌, ◌≢◌, ℕ, ◌+◌, ◌*◌, ◌<◌, ◌≤◌, ◌⊎◌, inl, inr, true, false, ◌&&◌, cond, nat_le, nat_lt, IsTrue, List, length, map, get_or, set, length-set, replicate, Option, Some, None, is_some, refl, sym, ap, subst, ◌∙◌, arith}
+use Rattle.std.proofs.Common.{◌≡◌, ◌≢◌, ℕ, ◌<◌, ◌≤◌, ◌⊎◌, inl, inr, true, false, cond, IsTrue, List, length, map, get_or, set, length-set, replicate, Option, Some, None, is_some, refl, sym, ap, subst, ◌∙◌, arith}
 use Rattle.std.specs.List.{All, Contains}
 use Rattle.std.specs.List.Sorted.{IsNonDecreasingBy}
 use Rattle.std.proofs.Math.Seq.{map-set_same}
-use Rattle.std.proofs.lemmas.Bool.{cases_lt, cases_eq, cases_Bool, and_parts, and_from, leb-true, le-leb, ltb-true, lt-ltb, false_from_ne_true}
+use Rattle.std.proofs.lemmas.Bool.{cases_lt, cases_eq, cases_Bool}
 use Rattle.std.proofs.lemmas.List.{length-map, length-replicate, get_or-map, get_or-set_same, get_or-set_other, get_or-replicate, get_or_past, ext_get_or}
 use Rattle.std.proofs.lemmas.List.Elements.{All-from_get_or}
 use Rattle.std.proofs.lemmas.Simd.{map-map}
@@ -12,10 +12,10 @@ use Rattle.fp_base.specs.declared.ids.Die.{Die}
 use Rattle.fp_netlist.specs.Netlist.{Netlist}
 use Rattle.fp_netlist.specs.Points.{area}
 use Rattle.fp_place.specs.Areas.{fits}
-use Rattle.fp_place.specs.Held.{Held, held_on, has_room}
+use Rattle.fp_place.specs.Held.{Held, has_room}
 use Rattle.fp_gains.specs.declared.tournament.Leader.{Leader}
 use Rattle.fp_gains.specs.Contests.{nobody, unkeyed, keyed, leader_at, rekeyed, IsBehind, IsBest, IsBestSlot}
-use Rattle.fp_gains.specs.Ordered.{Ordered, is_in, key_of, with_key, is_open, IsOrderOf, IsNewOrder, IsBestCell, IsBestOf}
+use Rattle.fp_gains.specs.Ordered.{Ordered, is_in, key_of, with_key, IsOrderOf, IsNewOrder}
 use Rattle.fp_gains.specs.OrderParts.{number_of, key_in, HoldPlaces, numbers, AreSlots, order_as, AreByArea, IsRoomFor, IsRoomy, IsBestRoomy, IsBestWithRoom}
 
 -- where a cell has room, so has one of less area
