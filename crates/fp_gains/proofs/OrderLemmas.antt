@@ -1,9 +1,9 @@
 -- An order kept by places and a tournament: how many cells have room, setting a key, and the best cell.
-use Rattle.std.proofs.Common.{◌≡◌, ◌≢◌, ℕ, ◌+◌, ◌*◌, ◌<◌, ◌≤◌, ◌⊎◌, inl, inr, true, false, ◌&&◌, cond, nat_le, nat_lt, IsTrue, List, length, map, get_or, set, length-set, replicate, Option, Some, None, is_some, refl, sym, ap, subst, ◌∙◌, arith}
+use Rattle.std.proofs.Common.{◌≡◌, ◌≢◌, ℕ, ◌<◌, ◌≤◌, ◌⊎◌, inl, inr, true, false, cond, IsTrue, List, length, map, get_or, set, length-set, replicate, Option, Some, None, is_some, refl, sym, ap, subst, ◌∙◌, arith}
 use Rattle.std.specs.List.{All, Contains}
 use Rattle.std.specs.List.Sorted.{IsNonDecreasingBy}
 use Rattle.std.proofs.Math.Seq.{map-set_same}
-use Rattle.std.proofs.lemmas.Bool.{cases_lt, cases_eq, cases_Bool, and_parts, and_from, leb-true, le-leb, ltb-true, lt-ltb, false_from_ne_true}
+use Rattle.std.proofs.lemmas.Bool.{cases_lt, cases_eq, cases_Bool}
 use Rattle.std.proofs.lemmas.List.{length-map, length-replicate, get_or-map, get_or-set_same, get_or-set_other, get_or-replicate, get_or_past, ext_get_or}
 use Rattle.std.proofs.lemmas.List.Elements.{All-from_get_or}
 use Rattle.std.proofs.lemmas.Simd.{map-map}
@@ -12,21 +12,13 @@ use Rattle.fp_base.specs.declared.ids.Die.{Die}
 use Rattle.fp_netlist.specs.Netlist.{Netlist}
 use Rattle.fp_netlist.specs.Points.{area}
 use Rattle.fp_place.specs.Areas.{fits}
-use Rattle.fp_place.specs.Held.{Held, held_on, has_room}
+use Rattle.fp_place.specs.Held.{Held, has_room}
 use Rattle.fp_gains.specs.declared.tournament.Leader.{Leader}
 use Rattle.fp_gains.specs.Contests.{nobody, unkeyed, keyed, leader_at, rekeyed, IsBehind, IsBest, IsBestSlot}
-use Rattle.fp_gains.specs.Ordered.{Ordered, is_in, key_of, with_key, is_open, IsOrderOf, IsNewOrder, IsBestCell, IsBestOf}
+use Rattle.fp_gains.specs.Ordered.{Ordered, is_in, key_of, with_key, IsOrderOf, IsNewOrder}
 use Rattle.fp_gains.specs.OrderParts.{number_of, key_in, HoldPlaces, numbers, AreSlots, order_as, AreByArea, IsRoomFor, IsRoomy, IsBestRoomy, IsBestWithRoom}
 
 -- where a cell has room, so has one of less area
-room_below : (held less more limit : ℕ) → less ≤ more → nat_le (100 * (held + more)) limit ≡ true → nat_le (100 * (held + less)) limit ≡ true
-room_below held less more limit le room =
-    let high = leb-true (100 * (held + more)) limit room in
-    le-leb (100 * (held + less)) limit (omega (arith, high, le))
-
-pub roomy_below : (p : Netlist) (held : Held) (die : Die) (less more : ℕ) → area p less die ≤ area p more die → has_room p held more die ≡ true → has_room p held less die ≡ true
-roomy_below p held die less more le room = room_below (held_on held die) (area p less die) (area p more die) _ le room
-
 -- below one bound all leaves have room, and from another on none has
 pub record IsNarrowed (p : Netlist) (held : Held) (die : Die) (leaves : List Leader) (low high : ℕ) : Type 0 where
   pub order : low ≤ high
@@ -36,39 +28,6 @@ pub record IsNarrowed (p : Netlist) (held : Held) (die : Die) (leaves : List Lea
 
 abbrev pub AreRising : Netlist → Die → List Leader → Type 0
 AreRising p die leaves = IsNonDecreasingBy (λ (leaf : Leader). area p leaf.cell.0 die) leaves
-
-pub narrowed_none : (p : Netlist) (held : Held) (die : Die) (leaves : List Leader) → IsNarrowed p held die leaves 0 (length leaves)
-narrowed_none p held die leaves = record {
-  order = omega arith;
-  within = omega arith;
-  room = λ slot less. absurd (omega arith);
-  full = λ slot from below. absurd (omega arith);
-}
-
-pub narrowed_up : (p : Netlist) (held : Held) (die : Die) (leaves : List Leader) (low high middle : ℕ) → AreRising p die leaves → IsNarrowed p held die leaves low high → middle < high
-    → low ≤ middle → has_room p held (leader_at leaves middle).cell.0 die ≡ true → IsNarrowed p held die leaves (middle + 1) high
-narrowed_up p held die leaves low high middle rising narrowed below from room = record {
-  order = omega arith;
-  within = narrowed.within;
-  room = λ slot less. roomy_below p held die _ _ (rising slot middle nobody (omega arith) (omega (arith, narrowed.within))) room;
-  full = narrowed.full;
-}
-
-pub narrowed_down : (p : Netlist) (held : Held) (die : Die) (leaves : List Leader) (low high middle : ℕ) → AreRising p die leaves → IsNarrowed p held die leaves low high → middle < high
-    → low ≤ middle → has_room p held (leader_at leaves middle).cell.0 die ≡ false → IsNarrowed p held die leaves low middle
-narrowed_down p held die leaves low high middle rising narrowed below from full = record {
-  order = from;
-  within = omega (arith, narrowed.within);
-  room = narrowed.room;
-  full = λ slot after inside. false_from_ne_true _ (λ room. absurd (let e : false ≡ true = sym full ∙ roomy_below p held die _ _ (rising middle slot nobody after inside) room in cc));
-}
-
-pub narrowed_all : (p : Netlist) (held : Held) (die : Die) (leaves : List Leader) (low high : ℕ) → IsNarrowed p held die leaves low high → high ≤ low → IsRoomFor p held die leaves low
-narrowed_all p held die leaves low high narrowed end = record {
-  within = omega (arith, narrowed.order, narrowed.within);
-  room = narrowed.room;
-  full = λ slot from below. narrowed.full slot (omega arith) below;
-}
 
 -- setting a key
 number_at : (leaves : List Leader) (slot : ℕ) → slot < length leaves → get_or (map number_of leaves) slot 0 ≡ (leader_at leaves slot).cell.0
@@ -318,30 +277,6 @@ front_best p held die places leaves count None holds room is = none_roomy p held
 front_best p held die places leaves count (Some best) holds room is =
     best_roomy p held die places leaves count best holds (record { within = room.within; full = room.full }) is
     (ap (λ (l : Leader). has_room p held l.cell.0 die) (sym is.there) ∙ room.room is.slot is.within)
-
--- the best cell with a key
-roomy_where_open : (p : Netlist) (held : Held) (o : Ordered) (cell : ℕ) → IsOrderOf p o.die o → cell < length p.cells → IsTrue (is_open p held o cell) → IsRoomy p held o cell × (0 < key_of o cell)
-roomy_where_open p held o cell order inside opens =
-    let parts = and_parts (nat_lt 0 (key_of o cell)) (fits p cell o.die && has_room p held cell o.die) opens in
-    let both = and_parts (fits p cell o.die) (has_room p held cell o.die) parts.1 in
-    (record { within = inside; inside = order.fitting cell inside ∙ both.0; room = both.1 }, ltb-true 0 (key_of o cell) parts.0)
-
-pub no_best : (p : Netlist) (held : Held) (o : Ordered) → IsOrderOf p o.die o → ((cell : ℕ) → IsRoomy p held o cell → ⊥) → IsBestOf p held o None
-no_best p held o order none cell inside opens = none cell (roomy_where_open p held o cell order inside opens).0
-
-pub no_key_best : (p : Netlist) (held : Held) (o : Ordered) (best : Leader) → IsOrderOf p o.die o → IsBestRoomy p held o best → best.key ≤ 0 → IsBestOf p held o None
-no_key_best p held o best order is none cell inside opens =
-    let roomy = roomy_where_open p held o cell order inside opens in
-    omega (arith, (is.ahead cell roomy.0).key, roomy.1)
-
-pub keyed_best : (p : Netlist) (held : Held) (o : Ordered) (best : Leader) → IsOrderOf p o.die o → IsBestRoomy p held o best → 0 < best.key → IsBestCell p held o best
-keyed_best p held o best order is some = record {
-  within = is.roomy.within;
-  opens = and_from _ _ (lt-ltb 0 (key_of o best.cell.0) (omega (arith, is.key))) (and_from _ _ (sym (order.fitting best.cell.0 is.roomy.within) ∙ is.roomy.inside) is.roomy.room);
-  key = is.key;
-  greatest = λ cell inside opens. (is.ahead cell (roomy_where_open p held o cell order inside opens).0).key;
-  first = λ cell inside opens same. (is.ahead cell (roomy_where_open p held o cell order inside opens).0).cell same;
-}
 
 -- what a method knows of the parts of an order
 pub held_order : (p : Netlist) (die : Die) (places : List (Option ℕ)) (leaves : List Leader) (o : Ordered) → HoldPlaces places (map number_of leaves) (length leaves)

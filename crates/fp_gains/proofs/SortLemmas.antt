@@ -1,5 +1,5 @@
 -- Cells in order of their area, and their places.
-use Rattle.std.proofs.Common.{◌≡◌, ◌≢◌, ℕ, ◌+◌, ◌<◌, ◌≤◌, ◌⊎◌, inl, inr, true, false, nat_eq, IsTrue, List, [], ◌∷◌, ◌++◌, length, map, get_or, set, length-set, replicate, Option, Some, None, Result, Ok, Err, IfOk, refl, sym, ap, subst, ◌∙◌, arith}
+use Rattle.std.proofs.Common.{◌≡◌, ◌≢◌, ℕ, ◌+◌, ◌<◌, ◌≤◌, ◌⊎◌, inl, inr, true, false, nat_eq, IsTrue, List, [], ◌∷◌, ◌++◌, length, map, get_or, set, length-set, Option, Some, None, Result, Ok, Err, IfOk, refl, sym, ap, subst, ◌∙◌, arith}
 use Rattle.std.specs.Bool.{Decides}
 use Rattle.std.specs.List.{All, AllPairs, Contains}
 use Rattle.std.specs.List.Sorted.{IsPermutation, IsSorted, IsNonDecreasingBy}
@@ -9,7 +9,7 @@ use Rattle.std.specs.declared.cmp.Ordering.TheVariants.{Less, Equal, Greater}
 use Rattle.std.proofs.lemmas.Bool.{cases_lt, cases_eq}
 use Rattle.std.proofs.lemmas.Bool.Decides.{Decides-eqb, nat_tests}
 use Rattle.std.proofs.lemmas.Cmp.{ranked}
-use Rattle.std.proofs.lemmas.List.{length-map, length_push, get_or-map, map-append, get_or-set_same, get_or-set_other, get_or-replicate, get_or_past}
+use Rattle.std.proofs.lemmas.List.{length-map, length_push, get_or-map, map-append, get_or-set_same, get_or-set_other}
 use Rattle.std.proofs.lemmas.List.Elements.{All-map, All-weaker, All-push, Contains-append_left, Contains-push}
 use Rattle.std.proofs.lemmas.List.Quantifiers.{all_pairs_push}
 use Rattle.std.proofs.lemmas.List.Sorted.{length_permutation, IsPermutation-map, All-permutation, Contains-permutation, IsNonDecreasingBy-from_all_adjacent}
@@ -31,14 +31,6 @@ number_in entry = entry.1
 -- the entries of one cell more
 entry_later : (p : Netlist) (die : Die) (count : ℕ) (entry : ℕ × ℕ) → IsEntry p die count entry → IsEntry p die (count + 1) entry
 entry_later p die count entry is = record { within = omega (arith, is.within); fitting = is.fitting; area_is = is.area_is }
-
-pub areas_none : (p : Netlist) (die : Die) → AreAreas p die 0 []
-areas_none p die = record {
-  few = omega arith;
-  each = λ k d less. absurd (omega arith);
-  there = λ cell less. absurd (omega arith);
-  apart = λ i j d less below. absurd (omega arith);
-}
 
 pub areas_more : (p : Netlist) (die : Die) (count : ℕ) (entries : List (ℕ × ℕ)) (size : ℕ) → AreAreas p die count entries → IsTrue (fits p count die) → size ≡ area p count die
     → AreAreas p die (count + 1) (entries ++ (size, count) ∷ [])
@@ -140,19 +132,6 @@ sorted_by_area p die entries sorted are moved up = record {
     each = All-permutation (IsEntry p die (length p.cells)) entries sorted moved are.each
 
 -- the places of one cell more
-pub slots_none : (many : ℕ) (places : List (Option ℕ)) (cells : List CellId) → places ≡ replicate many None → length places ≡ many → AreSlots many places cells 0
-slots_none many places cells none long = record {
-  long = long;
-  hold = record {
-    found = λ slot less. absurd (omega arith);
-    named = λ cell slot there. absurd (let e : None ≡ Some slot = sym (empty cell (cases_lt cell many)) ∙ there in cc);
-  };
-}
-  where
-    empty : (cell : ℕ) → (cell < many) ⊎ (many ≤ cell) → get_or places cell None ≡ None
-    empty cell (inl inside) = ap (λ (l : List (Option ℕ)). get_or l cell None) none ∙ get_or-replicate many cell None None inside
-    empty cell (inr past) = get_or_past places cell None (omega (arith, long))
-
 abbrev no_cell : CellId
 no_cell = record { 0 = 0 }
 

@@ -40,23 +40,17 @@ pub record ArePlayed (slots : ℕ) (nodes : List Leader) (from : ℕ) : Type 0 w
   pub many : length nodes ≡ slots + slots
   pub won : (node : ℕ) → 1 ≤ node → from ≤ node → node < slots → IsWon nodes node
 
-pub none_played : (slots : ℕ) (nodes : List Leader) → length nodes ≡ slots + slots → ArePlayed slots nodes slots
-none_played slots nodes many = record { many = many; won = λ node some from below. absurd (omega (arith, from, below)) }
-
-pub played_more : (slots : ℕ) (nodes : List Leader) (place : ℕ) (best : Leader) → ArePlayed slots nodes (place + 1) → 1 ≤ place → place < slots
+pub played_more : (slots : ℕ) (nodes : List Leader) (place from : ℕ) (best : Leader) → ArePlayed slots nodes from → place + 1 ≡ from → 1 ≤ place → place < slots
     → IsWinner (leader_at nodes (2 * place)) (leader_at nodes (2 * place + 1)) best → ArePlayed slots (set nodes place best) place
-played_more slots nodes place best played some below wins = record {
+played_more slots nodes place from best played next some below wins = record {
   many = length-set nodes place best ∙ played.many;
-  won = λ node one from less. by node one from less (cases_eq node place);
+  won = λ node one above less. by node one above less (cases_eq node place);
 }
   where
     by : (node : ℕ) → 1 ≤ node → place ≤ node → node < slots → (node ≡ place) ⊎ (node ≢ place) → IsWon (set nodes place best) node
-    by node one from less (inl same) = subst (IsWon (set nodes place best)) (sym same) (won_here nodes place best some (omega (arith, played.many)) wins)
-    by node one from less (inr other) =
-        won_elsewhere nodes place best node other (λ e. omega (arith, e)) (λ e. omega (arith, e)) (played.won node one (omega (arith, other)) less)
-
-pub all_played : (slots : ℕ) (nodes : List Leader) (from : ℕ) → ArePlayed slots nodes from → from ≤ 1 → IsTree slots nodes
-all_played slots nodes from played low = record { many = played.many; won = λ node some below. played.won node some (omega arith) below }
+    by node one above less (inl same) = subst (IsWon (set nodes place best)) (sym same) (won_here nodes place best some (omega (arith, played.many)) wins)
+    by node one above less (inr other) =
+        won_elsewhere nodes place best node other (λ e. omega (arith, e)) (λ e. omega (arith, e)) (played.won node one (omega (arith, other, next)) less)
 
 -- playing the matches of a changed node again
 pub replayed : (slots : ℕ) (nodes : List Leader) (hole : ℕ) (best : Leader) → IsTreeBut slots nodes hole → 1 ≤ hole → hole < slots
@@ -71,22 +65,7 @@ replayed slots nodes hole best tree some below wins = record {
     by node one less apart (inr other) =
         won_elsewhere nodes hole best node other (λ e. apart (omega (arith, e))) (λ e. apart (omega (arith, e))) (tree.won node one less other)
 
-pub stays : (slots : ℕ) (nodes : List Leader) (hole : ℕ) → IsTreeBut slots nodes hole → IsWon nodes hole → IsTree slots nodes
-stays slots nodes hole tree won = record { many = tree.many; won = λ node one less. by node one less (cases_eq node hole) }
-  where
-    by : (node : ℕ) → 1 ≤ node → node < slots → (node ≡ hole) ⊎ (node ≢ hole) → IsWon nodes node
-    by node one less (inl same) = subst (IsWon nodes) (sym same) won
-    by node one less (inr other) = tree.won node one less other
-
-pub whole : (slots : ℕ) (nodes : List Leader) (node : ℕ) → IsTreeBut slots nodes (node / 2) → node ≤ 1 → IsTree slots nodes
-whole slots nodes node tree low = record { many = tree.many; won = λ other one less. tree.won other one less (λ e. omega (arith, e)) }
-
-pub leaf_changed : (slots : ℕ) (nodes : List Leader) (leaf : ℕ) (leader : Leader) → IsTree slots nodes → slots ≤ leaf → IsTreeBut slots (set nodes leaf leader) (leaf / 2)
-leaf_changed slots nodes leaf leader tree above = record {
-  many = length-set nodes leaf leader ∙ tree.many;
-  won = λ node one less apart. won_elsewhere nodes leaf leader node (λ e. omega (arith, e)) (λ e. apart (omega (arith, e))) (λ e. apart (omega (arith, e))) (tree.won node one less);
-}
-
+-- a slot with another key
 pub leaf_keyed : (slots : ℕ) (nodes : List Leader) (slot key : ℕ)
     → drop slots (set nodes (slots + slot) (keyed (leader_at nodes (slots + slot)) key)) ≡ rekeyed (drop slots nodes) slot key
 leaf_keyed slots nodes slot key =
@@ -240,15 +219,3 @@ asked_more slots count nodes best low high ends better tree asked less wins = re
         → IsLeaf slots count nodes (leader_at nodes node)
     inside_by node from below (inl even) = leaf_as slots count nodes _ _ (asked.inside (2 * node) (omega arith) (omega arith)) even
     inside_by node from below (inr odd) = leaf_as slots count nodes _ _ (asked.inside (2 * node + 1) (omega arith) (omega arith)) odd
-
-pub asked_all : (slots count : ℕ) (nodes : List Leader) (best : Leader) (low high : ℕ) → IsAsked slots count nodes best low high → high ≤ low → IsBest (drop slots nodes) count best
-asked_all slots count nodes best low high asked none = record {
-  slot = asked.held.slot;
-  within = asked.held.within;
-  there = leaf_dropped slots nodes asked.held.slot ∙ asked.held.there;
-  ahead = λ other below. subst (λ (l : Leader). IsBehind l best) (sym (leaf_dropped slots nodes other)) (by other (asked.covered other below));
-}
-  where
-    by : (slot : ℕ) → IsBehind (leaf_at slots nodes slot) best ⊎ IsLeft slots nodes low high (leaf_at slots nodes slot) → IsBehind (leaf_at slots nodes slot) best
-    by slot (inl behind) = behind
-    by slot (inr left) = absurd (omega (arith, left.from, left.below, none))
