@@ -1,0 +1,13 @@
+pub mod BestLemmas
+pub mod CutLemmas
+pub mod HoldLemmas
+pub mod LinkLemmas
+pub mod ListLemmas
+pub mod NewLemmas
+pub mod OrderLaws
+pub mod OrderLemmas
+pub mod RankLemmas
+pub mod SortLemmas
+pub mod StateLemmas
+pub mod TournamentLemmas
+pub mod WeightLemmas

@@ -1,0 +1,32 @@
+use Rattle.std.proofs.Common.{◌≡◌, ◌∙◌, length, map, sym, ap, subst, arith}
+use Rattle.fp_gains.specs.Contests.{unkeyed}
+use Rattle.fp_gains.specs.Ordered.{IsNewOrder}
+use Rattle.fp_gains.specs.OrderParts.{number_of, HoldPlaces, AreSlots, order_as}
+use Rattle.fp_gains.proofs.OrderLemmas.{places_new, new_order}
+use Rattle.fp_gains.proofs.order.Order.new.Goals as goal
+use Rattle.fp_gains.proofs.order.Order.new.Goals.{In_ok-tournament}
+
+pub slots_of-requires-clause-few : goal.slots_of-requires-clause-few
+slots_of-requires-clause-few c = omega (arith, c.in_ok-cells.ensures.few, ap length c.deref.ensures.value, c.cells.ensures.sound.few_cells)
+
+pub new-requires : goal.new-requires
+new-requires c = omega (arith, c.in_ok-cells.ensures.few, ap length c.deref-2.ensures.value, c.cells.ensures.sound.few_cells)
+
+slots : (c : In_ok-tournament) → AreSlots (length c.args.problem.now.cells) c.in_ok-slots.slots.items c.in_ok-cells.cells.items (length c.in_ok-cells.cells.items)
+slots c =
+    subst (λ many. AreSlots many c.in_ok-slots.slots.items c.in_ok-cells.cells.items (length c.in_ok-cells.cells.items)) c.cells.ensures.count
+    (subst (λ cells. AreSlots c.cells.result c.in_ok-slots.slots.items cells (length cells)) c.deref.ensures.value c.in_ok-slots.ensures)
+
+leaves : (c : In_ok-tournament) → c.in_ok-tournament.tournament ≡ map unkeyed c.in_ok-cells.cells.items
+leaves c = c.in_ok-tournament.ensures ∙ ap (map unkeyed) c.deref-2.ensures.value
+
+pub invariant_of-result : goal.invariant_of-result
+invariant_of-result c =
+    subst (λ tournament. HoldPlaces c.in_ok-slots.slots.items (map number_of tournament) (length tournament)) (sym (leaves c))
+    (places_new (length c.args.problem.now.cells) c.in_ok-slots.slots.items c.in_ok-cells.cells.items (slots c))
+
+pub returns : goal.returns
+returns c =
+    let d = (goal.at.returns c).In_ok-tournament in
+    subst (λ tournament. IsNewOrder c.args.problem.now c.args.die (order_as c.args.die c.in_ok-slots.slots.items tournament)) (sym (leaves d))
+    (new_order c.args.problem.now c.args.die c.in_ok-cells.cells.items c.in_ok-slots.slots.items c.in_ok-cells.ensures (slots d))

@@ -1,0 +1,13 @@
+pub mod Changes
+pub mod Contests
+pub mod Gained
+pub mod Kept
+pub mod KeptOrder
+pub mod KeptTournament
+pub mod Links
+pub mod Lists
+pub mod OrderParts
+pub mod Ordered
+pub mod Sides
+pub use Rattle.fp_netlist.specs.Netlist
+pub use Rattle.fp_place.specs.Settled

@@ -1,0 +1,77 @@
+//! The keys of the cells, in the orders of both dies.
+
+ghost use Rattle.std.specs.Prelude.{◌≡◌, ℕ, ◌<◌, ◌==◌, All, length, set, if◌then◌else◌};
+ghost use Rattle.std.specs.List.{IsDistinct};
+ghost use Rattle.fp_base.specs.declared.ids.Die.TheVariants.{Top, Bottom};
+ghost use Rattle.fp_gains.specs.Kept.{free_key, is_free, AreShownBut, AreShown, Follow};
+ghost use Rattle.fp_gains.specs.Changes.{AreReweighed, AreInRange};
+
+use crate::order::Order;
+use crate::sides::Sides;
+use fp_base::{CellId, Die};
+
+/// A key for each cell, which rises with its gain, and for each die an order that shows the keys of the cells that are free to move
+/// there.
+#[derive(Drop)]
+pub struct Ranks {
+    pub keys: Vec<u32>,
+    pub top: Order,
+    pub bottom: Order,
+}
+
+/// The key of a cell whose move changes nothing.
+pub const EVEN: u32 = (1 << 21) + 1;
+
+impl Ranks {
+    /// Sets the key of a cell, and shows it.
+    pub fn set(&mut self, dies: &[Die], locked: &[bool], cell: CellId, key: u32)
+        requires cell { cell.0 < length dies.now }
+        requires shown { AreShownBut cell.0 dies.now locked.now self.old }
+        ensures keys { self.new.keys.items ≡ set self.old.keys.items cell.0 key }
+        ensures shown { AreShown dies.now locked.now self.new }
+        ensures follow { Follow self.old self.new }
+    {
+        self.keys[cell.0 as usize] = key;
+        self.top
+            .set(cell, free_key(dies, locked, key, Die::Top, cell));
+        self.bottom
+            .set(cell, free_key(dies, locked, key, Die::Bottom, cell));
+    }
+
+    /// Gives each of these cells the key that its net's numbers of cells after a change make of the key by those before.
+    pub fn reweigh(
+        &mut self,
+        dies: &[Die],
+        locked: &[bool],
+        cells: &[u32],
+        before: Sides,
+        after: Sides,
+    )
+        requires within { All (λ cell. cell < length dies.now) cells.now }
+        requires once { IsDistinct (λ a b. a == b) cells.now }
+        requires range { AreInRange self.old.keys.items }
+        requires shown { AreShown dies.now locked.now self.old }
+        ensures keys { AreReweighed dies.now cells.now before after self.old.keys.items self.new.keys.items }
+        ensures shown { AreShown dies.now locked.now self.new }
+        ensures follow { Follow self.old self.new }
+    {
+        for cell in cells {
+            let die = dies[*cell as usize];
+            let key = self.keys[*cell as usize] + after.share(die) - before.share(die);
+            self.set(dies, locked, CellId(*cell), key);
+        }
+    }
+}
+
+// The key of a cell that is free to move to a die, 0 for others.
+fn free_key(dies: &[Die], locked: &[bool], key: u32, die: Die, cell: CellId) -> u32
+    requires cell { cell.0 < length dies.now }
+    requires locks { length locked.now ≡ length dies.now }
+    ensures { result ≡ (if is_free dies.now locked.now die cell.0 then key else 0) }
+{
+    if locked[cell.0 as usize] || dies[cell.0 as usize] == die {
+        0
+    } else {
+        key
+    }
+}

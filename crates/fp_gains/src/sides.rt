@@ -1,0 +1,99 @@
+//! How many cells of a net stand on each die.
+
+ghost use Rattle.std.specs.Prelude.{◌≡◌, ◌<◌, ◌≤◌, ◌^◌, ◌+◌, All, IsTrue, length};
+ghost use Rattle.fp_base.specs.declared.ids.Die.TheVariants.{Top, Bottom};
+ghost use Rattle.fp_place.specs.Places.{other_die};
+ghost use Rattle.fp_gains.specs.Sides.{count_on, on_die, sides_of, moved, share_by, share};
+
+use fp_base::Die;
+
+/// How many cells of a net stand on each die.
+#[derive(Clone, Copy)]
+pub struct Sides {
+    pub top: u32,
+    pub bottom: u32,
+}
+
+impl Sides {
+    /// Those of a net's cells.
+    pub fn of(dies: &[Die], cells: &[u32]) -> Sides
+        requires within { All (λ cell. cell < length dies.now) cells.now }
+        requires few { length cells.now ≤ 2 ^ 21 }
+        ensures { result ≡ sides_of dies.now cells.now }
+    {
+        Sides {
+            top: count_on(dies, Die::Top, cells),
+            bottom: count_on(dies, Die::Bottom, cells),
+        }
+    }
+
+    /// After one of the cells left a die for the other.
+    pub fn moved(self, from: Die) -> Sides
+        requires there { 0 < count_on self from }
+        requires few { self.top + self.bottom ≤ 2 ^ 22 }
+        ensures { result ≡ moved self from }
+    {
+        match from {
+            Die::Top => Sides {
+                top: self.top - 1,
+                bottom: self.bottom + 1,
+            },
+            Die::Bottom => Sides {
+                top: self.top + 1,
+                bottom: self.bottom - 1,
+            },
+        }
+    }
+
+    /// What the net adds to the key of a cell that stands on the die, from 0 to 2.
+    pub fn share(self, die: Die) -> u32
+        ensures share { result ≡ share die self }
+        ensures small { result ≤ 2 }
+    {
+        match die {
+            Die::Top => share_by(self.top, self.bottom),
+            Die::Bottom => share_by(self.bottom, self.top),
+        }
+    }
+
+    /// Whether the net adds as much to each cell's key as with the other numbers.
+    pub fn weighs_as(self, other: Sides) -> bool
+        ensures top { IsTrue result → share Top self ≡ share Top other }
+        ensures bottom { IsTrue result → share Bottom self ≡ share Bottom other }
+    {
+        self.share(Die::Top) == other.share(Die::Top)
+            && self.share(Die::Bottom) == other.share(Die::Bottom)
+    }
+}
+
+/// The die that faces another.
+pub fn other(die: Die) -> Die
+    ensures { result ≡ other_die die }
+{
+    match die {
+        Die::Top => Die::Bottom,
+        Die::Bottom => Die::Top,
+    }
+}
+
+// Of these cells, the number of those on a die.
+fn count_on(dies: &[Die], die: Die, cells: &[u32]) -> u32
+    requires within { All (λ cell. cell < length dies.now) cells.now }
+    requires few { length cells.now ≤ 2 ^ 21 }
+    ensures { result ≡ on_die dies.now die cells.now }
+{
+    cells
+        .iter()
+        .filter(|cell| dies[**cell as usize] == die)
+        .count() as u32
+}
+
+// One more than what a net with so many cells here and there loses in cuts when one goes there.
+fn share_by(here: u32, there: u32) -> u32
+    ensures share { result ≡ share_by here there }
+    ensures small { result ≤ 2 }
+{
+    let before = u32::from(0 < there);
+    let after = u32::from(1 < here);
+    before + 1 - after
+}

@@ -1,0 +1,117 @@
+//! What changes in gains: where cells stand, which are locked, the nets' numbers of cells on each die, and the keys.
+
+ghost use Rattle.std.specs.Prelude.{◌≡◌, ℕ, ◌+◌, ◌<◌, ◌≤◌, ◌^◌, ◌==◌, All, false, length, set, map};
+ghost use Rattle.std.specs.List.{IsDistinct};
+ghost use Rattle.fp_place.specs.Settled.{flipped};
+ghost use Rattle.fp_gains.specs.Links.{AreMembers};
+ghost use Rattle.fp_gains.specs.Kept.{IsRanked, AreCounted, IsKept, AreShown, Follow};
+ghost use Rattle.fp_gains.specs.Changes.{CanTurn, AreTurned, Stands, Lies};
+
+use crate::lists::Lists;
+use crate::ranks::{EVEN, Ranks};
+use crate::sides::{Sides, other};
+use fp_base::{CellId, Die};
+
+/// Where the cells stand, which are locked, how many of each net's cells stand on each die, and the cells' keys.
+#[derive(Drop)]
+pub struct State {
+    pub dies: Vec<Die>,
+    pub locked: Vec<bool>,
+    pub sides: Vec<Sides>,
+    pub ranks: Ranks,
+}
+
+impl State {
+    // Sets how many cells of a net stand on each die, and the keys of its cells by it.
+    fn set_sides(&mut self, members: &Lists, net: usize, after: Sides)
+        requires net { net < length members.now }
+        requires members { AreMembers members.now (length self.old.dies.items) }
+        requires ranked { IsRanked members.now self.old }
+        ensures sides { self.new.sides.items ≡ set self.old.sides.items net after }
+        ensures ranked { IsRanked members.now self.new }
+        ensures stands { Stands self.old self.new }
+    {
+        let before = self.sides[net];
+        self.sides[net] = after;
+        if !before.weighs_as(after) {
+            let cells = members.list(net);
+            self.ranks
+                .reweigh(&self.dies, &self.locked, cells, before, after);
+        }
+    }
+
+    // Moves a cell from this die to the other in each of its nets.
+    fn turn_nets(&mut self, members: &Lists, nets: &[u32], die: Die)
+        requires within { All (λ net. net < length members.now) nets.now }
+        requires once { IsDistinct (λ a b. a == b) nets.now }
+        requires there { CanTurn nets.now die self.old.sides.items }
+        requires members { AreMembers members.now (length self.old.dies.items) }
+        requires ranked { IsRanked members.now self.old }
+        ensures sides { AreTurned nets.now die self.old.sides.items self.new.sides.items }
+        ensures ranked { IsRanked members.now self.new }
+        ensures stands { Stands self.old self.new }
+    {
+        for net in nets {
+            let net = *net as usize;
+            let after = self.sides[net].moved(die);
+            self.set_sides(members, net, after);
+        }
+    }
+
+    /// Moves a cell to its other die. Its own gain turns its sign.
+    pub fn flip(&mut self, members: &Lists, nets: &Lists, cell: CellId)
+        requires cell { cell.0 < length self.old.dies.items }
+        requires kept { IsKept members.now nets.now self.old }
+        ensures kept { IsKept members.now nets.now self.new }
+        ensures dies { self.new.dies.items ≡ flipped self.old.dies.items cell.0 }
+        ensures locked { self.new.locked ≡ self.old.locked }
+        ensures follow { Follow self.old.ranks self.new.ranks }
+    {
+        let place = cell.0 as usize;
+        let die = self.dies[place];
+        let key = 2 * EVEN - self.ranks.keys[place];
+        self.turn_nets(members, nets.list(place), die);
+        self.dies[place] = other(die);
+        self.ranks.set(&self.dies, &self.locked, cell, key);
+    }
+
+    /// Locks or unlocks a cell.
+    pub fn set_lock(&mut self, cell: CellId, lock: bool)
+        requires cell { cell.0 < length self.old.dies.items }
+        requires shown { AreShown self.old.dies.items self.old.locked.items self.old.ranks }
+        ensures shown { AreShown self.new.dies.items self.new.locked.items self.new.ranks }
+        ensures locked { self.new.locked.items ≡ set self.old.locked.items cell.0 lock }
+        ensures lies { Lies self.old self.new }
+    {
+        self.locked[cell.0 as usize] = lock;
+        let key = self.ranks.keys[cell.0 as usize];
+        self.ranks.set(&self.dies, &self.locked, cell, key);
+    }
+
+    /// Unlocks every cell.
+    pub fn unlock_all(&mut self)
+        requires few { length self.old.dies.items ≤ 2 ^ 18 }
+        requires shown { AreShown self.old.dies.items self.old.locked.items self.old.ranks }
+        ensures shown { AreShown self.new.dies.items self.new.locked.items self.new.ranks }
+        ensures locked { self.new.locked.items ≡ map (λ _. false) self.old.locked.items }
+        ensures lies { Lies self.old self.new }
+    {
+        for cell in 0..self.dies.len() as u32 {
+            self.set_lock(CellId(cell), false);
+        }
+    }
+
+    /// Counts the cells of each net on each die.
+    pub fn count(&mut self, members: &Lists)
+        requires members { AreMembers members.now (length self.old.dies.items) }
+        requires ranked { IsRanked members.now self.old }
+        ensures counted { AreCounted members.now self.new.dies.items self.new.sides.items }
+        ensures ranked { IsRanked members.now self.new }
+        ensures stands { Stands self.old self.new }
+    {
+        for net in 0..members.len() {
+            let sides = Sides::of(&self.dies, members.list(net));
+            self.set_sides(members, net, sides);
+        }
+    }
+}

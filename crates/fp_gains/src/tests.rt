@@ -1,0 +1,187 @@
+//! What no clause says: that memory is enough, and that the clauses mean what was meant.
+
+ghost use Rattle.std.specs.Prelude.{◌≡◌, ◌<◌, ◌≤◌, IfOk, All, length};
+ghost use Rattle.fp_gains.specs.Gained.{IsGainsOf};
+
+use crate::Gains;
+use crate::tournament::{Leader, Tournament};
+use fp_base::{CellId, Die, LibId, NetId, NoMemory, TechId};
+use fp_netlist::{Problem, ProblemBuilder};
+use fp_place::{Caps, cut};
+use fp_tech::{BuildFault, DieSpec, Dies, Frame, TechBook, TermSpec};
+use std::alloc::Global;
+use std::process::Abort;
+use std::test::Fail;
+
+/// A technology with one library cell, of area 10.
+fn small_book(rt: &impl Abort, alloc: Global) -> Result<(TechBook, LibId), BuildFault> {
+    let mut book = TechBook::new(alloc);
+    let tech = book.add_tech(b"TA")?;
+    assert!(rt; tech.0 < book.techs());
+    let inverter = book.add_lib(tech, b"INV", 2, 5)?;
+    assert!(rt; tech.0 < book.techs());
+    assert!(rt; book.has(tech, inverter));
+    book.add_pin(tech, inverter, b"A", 1, 1)?;
+    Ok((book, inverter))
+}
+
+/// Two rows on each die, which cells may fill, in a frame of area 400.
+fn small_dies(rt: &impl Abort, alloc: Global, book: TechBook) -> Result<Dies, Fail> {
+    let frame = Frame {
+        llx: 0,
+        lly: 0,
+        urx: 20,
+        ury: 20,
+    };
+    let terminal = TermSpec {
+        size_x: 2,
+        size_y: 2,
+        spacing: 1,
+    };
+    assert!(rt; book.techs() == 1);
+    let spec = DieSpec {
+        percent: 100,
+        tech: TechId(0),
+        start_x: 0,
+        start_y: 0,
+        length: 20,
+        height: 5,
+        repeat: 2,
+    };
+    Ok(Dies::new(alloc, book, frame, spec, spec, terminal)?)
+}
+
+/// Adds so many cells.
+fn add_cells(
+    builder: &mut ProblemBuilder,
+    lib: LibId,
+    names: &[[u8; 1]],
+) -> Result<(), BuildFault> {
+    for name in names {
+        builder.add_inst(name, lib)?;
+    }
+    Ok(())
+}
+
+/// Adds a net of these cells.
+fn add_net(
+    rt: &impl Abort,
+    builder: &mut ProblemBuilder,
+    name: u8,
+    cells: &[u32],
+) -> Result<(), BuildFault> {
+    let net = builder.add_net(&[name])?;
+    for cell in cells {
+        assert!(rt; net.0 < builder.nets());
+        assert!(rt; *cell < builder.cells());
+        builder.connect(net, CellId(*cell), b"A")?;
+    }
+    Ok(())
+}
+
+/// A problem of so many cells, with these nets.
+fn problem(
+    rt: &impl Abort,
+    alloc: Global,
+    cells: &[[u8; 1]],
+    nets: &[&[u32]],
+) -> Result<Problem, Fail> {
+    let (book, lib) = small_book(rt, alloc)?;
+    let dies = small_dies(rt, alloc, book)?;
+    let mut builder = ProblemBuilder::new(alloc, dies);
+    add_cells(&mut builder, lib, cells)?;
+    let mut name = b'a';
+    for net in nets {
+        add_net(rt, &mut builder, name, net)?;
+        name = name.saturating_add(1);
+    }
+    Ok(builder.finish()?)
+}
+
+/// The cells have these gains.
+fn has_gains(rt: &impl Abort, gains: &Gains, expected: &[i64]) {
+    for (cell, gain) in expected.iter().enumerate() {
+        assert!(rt; cell < 10);
+        assert!(rt; cell < gains.dies().len());
+        assert_eq!(rt; gains.gain(CellId(cell as u32)), *gain);
+    }
+}
+
+#[test]
+fn a_chain_of_three_cells_has_gains(rt: HostRuntime) -> Result<(), Fail> {
+    let problem = problem(&rt, rt.alloc(), &[*b"u", *b"v", *b"w"], &[&[0, 1], &[1, 2]])?;
+    assert!(&rt; problem.cells() == 3);
+    let dies = [Die::Top, Die::Bottom, Die::Bottom];
+    let mut gains = Gains::new(rt.alloc(), &problem, &dies)?;
+    has_gains(&rt, &gains, &[1, 0, -1]);
+    let caps = Caps::empty();
+    assert_eq!(&rt; gains.best_movable(&problem, &caps), Some(CellId(0)));
+    gains.lock(CellId(0));
+    assert_eq!(&rt; gains.best_movable(&problem, &caps), Some(CellId(1)));
+    Ok(())
+}
+
+#[test]
+fn a_cell_that_comes_twice_in_a_net_counts_once(rt: HostRuntime) -> Result<(), Fail> {
+    let problem = problem(&rt, rt.alloc(), &[*b"u", *b"v"], &[&[0, 0, 1]])?;
+    assert!(&rt; problem.cells() == 2);
+    let mut gains = Gains::new(rt.alloc(), &problem, &[Die::Top, Die::Bottom])?;
+    has_gains(&rt, &gains, &[1, 1]);
+    gains.flip(CellId(0));
+    has_gains(&rt, &gains, &[-1, -1]);
+    Ok(())
+}
+
+#[test]
+fn flips_change_gains_and_go_back(rt: HostRuntime) -> Result<(), Fail> {
+    let nets: [&[u32]; 4] = [&[0, 1, 2], &[2, 3], &[0, 3], &[1, 1]];
+    let problem = problem(&rt, rt.alloc(), &[*b"u", *b"v", *b"w", *b"x"], &nets)?;
+    assert!(&rt; problem.cells() == 4);
+    let dies = [Die::Top, Die::Top, Die::Bottom, Die::Bottom];
+    let mut gains = Gains::new(rt.alloc(), &problem, &dies)?;
+    assert_eq!(&rt; cut(&problem, gains.dies()), 2);
+    has_gains(&rt, &gains, &[1, 0, 0, 0]);
+    for (flips, nets, expected) in [
+        ([Some(0), None], 1, [-1, 1, -1, -2]),
+        ([Some(1), None], 0, [-2, -1, -2, -2]),
+        ([Some(1), Some(0)], 2, [1, 0, 0, 0]),
+    ] {
+        for cell in flips.into_iter().flatten() {
+            assert!(&rt; (cell as usize) < gains.dies().len());
+            gains.flip(CellId(cell));
+        }
+        assert!(&rt; gains.dies().len() == 4);
+        assert_eq!(&rt; cut(&problem, gains.dies()), nets);
+        has_gains(&rt, &gains, &expected);
+    }
+    Ok(())
+}
+
+// The best of the first slots, slot by slot.
+fn scan(leaves: &[Leader], count: usize) -> Option<Leader> {
+    let mut best: Option<Leader> = None;
+    for leaf in leaves.iter().take(count) {
+        best = match best {
+            Some(held) if (held.key, leaf.cell) > (leaf.key, held.cell) => Some(held),
+            _ => Some(*leaf),
+        };
+    }
+    best
+}
+
+#[test]
+fn first_is_the_best_of_a_scan(rt: HostRuntime) -> Result<(), Fail> {
+    let cells = [CellId(2), CellId(5), CellId(3), CellId(8), CellId(9)];
+    let keys = [4, 7, 7, 1, 9];
+    let mut tournament = Tournament::new(rt.alloc(), &cells)?;
+    assert_eq!(rt; tournament.leaves().len(), 5);
+    for (slot, key) in keys.iter().enumerate() {
+        assert!(rt; slot < tournament.leaves().len());
+        tournament.set(slot, *key);
+    }
+    for count in 0..6 {
+        assert!(rt; count <= tournament.leaves().len());
+        assert_eq!(rt; tournament.first(count), scan(tournament.leaves(), count));
+    }
+    Ok(())
+}
