@@ -2,7 +2,7 @@
 -- return change nothing.
 use Rattle.std.specs.Prelude.{◌≡◌, ℕ, zero, suc, ◌+◌, ◌*◌, ◌<◌, ◌≤◌, ◌≢◌, if◌then◌else◌, List, [], ◌∷◌, length, set, IsTrue, ◌⊎◌}
 use Rattle.std.proofs.Common.{refl, ap, sym, subst, ◌∙◌, inl, inr, ⊎_elim, arith}
-use Rattle.std.proofs.lemmas.List.{length-set, get_or-set_same, get_or-set_other, set-get_or}
+use Rattle.std.proofs.lemmas.List.{length-set, get_or-set_same, get_or-set_other, set-get_or, set-set}
 use Rattle.std.proofs.lemmas.Bool.{and_parts, leb-true, le-leb, cases_eq}
 use Rattle.fp_base.specs.declared.ids.Die.{Die}
 use Rattle.fp_base.specs.declared.ids.Die.TheVariants.{Top, Bottom}
@@ -113,15 +113,10 @@ other_of_other : (die : Die) → other_die (other_die die) ≡ die
 other_of_other Top = refl
 other_of_other Bottom = refl
 
-set_again : {A : Type 0} (xs : List A) (i : ℕ) (x y : A) → set (set xs i x) i y ≡ set xs i y
-set_again [] i x y = refl
-set_again (first ∷ others) zero x y = refl
-set_again (first ∷ others) (suc i) x y = ap (λ rest. first ∷ rest) (set_again others i x y)
-
 -- a cell that moves twice is back
 pub flipped_back : (dies : List Die) (cell : ℕ) → cell < length dies → flipped (flipped dies cell) cell ≡ dies
 flipped_back dies cell below =
     ap (λ die. set (flipped dies cell) cell (other_die die)) (get_or-set_same dies cell (far_die dies cell) Top below)
-    ∙ set_again dies cell (far_die dies cell) (other_die (far_die dies cell))
+    ∙ set-set dies cell (far_die dies cell) (other_die (far_die dies cell))
     ∙ ap (set dies cell) (other_of_other (die_at dies cell))
     ∙ set-get_or dies cell Top

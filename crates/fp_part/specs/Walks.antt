@@ -27,6 +27,7 @@ fewer fewest cut moves = if nat_lt cut fewest.cut then record { cut = cut; moves
 -- the dies keep the rules, and what is kept beside them agrees with them
 pub record IsReady (p : Netlist) (walk : Walk) : Type 0 where
   pub gains_are : IsGainsOf p walk.gains
+  pub locks : length walk.gains.locked ≡ length p.cells
   pub rules : KeepRules p walk.gains.dies
   pub held_is : walk.caps ≡ held_by p walk.gains.dies
   pub cut_is : walk.cut ≡ cut p walk.gains.dies

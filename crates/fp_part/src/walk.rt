@@ -1,7 +1,9 @@
 //! A pass of single moves.
 
 ghost use Rattle.std.specs.Prelude.{◌≡◌, ◌<◌, ◌≤ℤ◌, ◌+ℤ◌, ◌^◌, All, IfOk, List, Some, [], length, pos};
+ghost use Rattle.std.specs.Option.{option_map};
 ghost use Rattle.fp_base.specs.declared.ids.Die.{Die};
+ghost use Rattle.fp_netlist.specs.Netlist.{IsSound};
 ghost use Rattle.fp_place.specs.Settled.{best, next_move, KeepRules};
 ghost use Rattle.fp_gains.specs.Gained.{IsGainsOf};
 ghost use Rattle.fp_part.specs.Walks.{after_moves, fewer, IsReady, IsBegun, IsMoved, Advances, IsRun};
@@ -51,6 +53,8 @@ impl Walk {
 
     // Moves the next cell to its other die, and locks it.
     fn move_cell(&mut self, problem: &Problem, cell: CellId)
+        requires sound { IsSound problem.now }
+        requires cell { cell.0 < length problem.now.cells }
         requires ready { IsReady problem.now self.old }
         requires next { next_move problem.now self.old.gains.dies self.old.gains.locked ≡ Some cell.0 }
         ensures moved { IsMoved problem.now cell self.old self.new }
@@ -68,6 +72,7 @@ impl Walk {
 
     // One move more.
     fn advance(&mut self, problem: &Problem, cell: CellId) -> Result<(), NoMemory>
+        requires sound { IsSound problem.now }
         requires ready { IsReady problem.now self.old }
         requires next { next_move problem.now self.old.gains.dies self.old.gains.locked ≡ Some cell.0 }
         ensures { IfOk result (λ _. Advances problem.now cell self.old self.new) }
@@ -78,13 +83,21 @@ impl Walk {
         Ok(())
     }
 
+    // The cell that moves next.
+    fn next_cell(&self, problem: &Problem) -> Option<CellId>
+        requires { IsReady problem.now self.now }
+        ensures { option_map (λ cell. cell.0) result ≡ next_move problem.now self.now.gains.dies self.now.gains.locked }
+    {
+        self.gains.best_movable(problem, &self.caps)
+    }
+
     // The moves of a pass, as far as a cell may move.
     fn run(&mut self, problem: &Problem) -> Result<(), NoMemory>
         requires { IsBegun problem.now self.old }
         ensures { IfOk result (λ _. IsRun problem.now self.old.gains.dies self.new) }
     {
         for _ in 0..problem.cells() {
-            let Some(cell) = self.gains.best_movable(problem, &self.caps) else {
+            let Some(cell) = self.next_cell(problem) else {
                 return Ok(());
             };
             self.advance(problem, cell)?;
