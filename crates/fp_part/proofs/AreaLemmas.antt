@@ -1,5 +1,5 @@
 -- The areas of cells, one cell after the other; and after a move.
-use Rattle.std.specs.Prelude.{◌≡◌, ℕ, suc, ◌+◌, ◌-◌, ◌<◌, ◌≤◌, Bool, ◌&&◌, not, List, length, drop, get_or, IsTrue}
+use Rattle.std.specs.Prelude.{◌≡◌, ℕ, suc, ◌+◌, ◌<◌, ◌≤◌, List, length, drop, IsTrue}
 use Rattle.std.proofs.Common.{refl, ap, sym, subst, ◌∙◌, drop-cons, arith}
 use Rattle.std.proofs.lemmas.List.{at_drop_all}
 use Rattle.std.proofs.lemmas.Bool.{and_parts}
@@ -41,7 +41,7 @@ pub more_held : (p : Netlist) (dies : List Die) (held next : Held) (cell : ℕ) 
     → next ≡ with_area held (die_at dies cell) (area p cell (die_at dies cell)) → AreHeldBelow p dies next (cell + 1)
 more_held p dies held next cell before below is die =
     let added : held_on next die ≡ held_on held die + area_if p die cell (die_at dies cell) =
-        ap (λ h. held_on h die) is ∙ held_next p held (die_at dies cell) die cell in
+    ap (λ h. held_on h die) is ∙ held_next p held (die_at dies cell) die cell in
     omega (arith, added, before die, area_next p die dies cell below)
 
 -- where all cells keep a percent, there is room for the next one
@@ -69,7 +69,7 @@ unfolding may_move
 room_to_move p dies held cell far is_held is_far may =
     let taken = area_on p (far_die dies cell) dies + area p cell (far_die dies cell) in
     let room : IsTrue (has_room p (held_by p dies) cell (far_die dies cell)) =
-        by (far_die dies cell) (and_parts (fits p cell (far_die dies cell)) (keeps p.plan (far_die dies cell) taken) may).1 in
+    by (far_die dies cell) (and_parts (fits p cell (far_die dies cell)) (keeps p.plan (far_die dies cell) taken) may).1 in
     subst (λ d. IsTrue (has_room p held cell d)) (sym is_far) (subst (λ h. IsTrue (has_room p h cell (far_die dies cell))) (sym is_held) room)
   where
     by : (die : Die) → IsTrue (keeps p.plan die (area_on p die dies + area p cell die)) → IsTrue (has_room p (held_by p dies) cell die)

@@ -1,7 +1,7 @@
 -- Moves are taken back.
-use Rattle.std.specs.Prelude.{◌≡◌, ℕ, suc, ◌+◌, ◌-◌, ◌<◌, List, [], ◌∷◌, ◌++◌, length, take, get_or}
-use Rattle.std.proofs.Common.{refl, ap, sym, subst, ◌∙◌, arith}
-use Rattle.std.proofs.lemmas.List.{take_more, take_all}
+use Rattle.std.specs.Prelude.{◌≡◌, ℕ, ◌+◌, ◌<◌, List, [], ◌∷◌, length, take, get_or}
+use Rattle.std.proofs.Common.{ap, sym, ◌∙◌, arith}
+use Rattle.std.proofs.lemmas.List.{take_more}
 use Rattle.fp_base.specs.declared.ids.CellId.{CellId}
 use Rattle.fp_base.specs.declared.ids.Die.{Die}
 use Rattle.fp_place.specs.Settled.{flipped}
@@ -14,6 +14,6 @@ pub one_back : (start now : List Die) (moved : List CellId) (left place : ℕ) (
 one_back start now moved left place none same below within is =
     let cell = (get_or moved place none).0 in let before = after_moves start (take left moved) in
     let now_is : now ≡ flipped before cell =
-        is ∙ ap (after_moves start) (take_more moved left none below) ∙ after_append start (take left moved) (get_or moved left none ∷ [])
-        ∙ ap (λ k. flipped before (get_or moved k none).0) (sym same) in
+    is ∙ ap (after_moves start) (take_more moved left none below) ∙ after_append start (take left moved) (get_or moved left none ∷ [])
+    ∙ ap (λ k. flipped before (get_or moved k none).0) (sym same) in
     ap (λ dies. flipped dies cell) now_is ∙ flipped_back before cell (omega (arith, within, length-after start (take left moved)))

@@ -5,7 +5,7 @@ use Rattle.fp_base.specs.declared.ids.Die.{Die}
 use Rattle.fp_netlist.specs.Netlist.{Netlist}
 use Rattle.fp_place.specs.Cut.{cut}
 use Rattle.fp_place.specs.Settled.{best, settled}
-use Rattle.fp_part.specs.SettledLaws.{best_at_most, best_same, settled_next, settled_as_they_are, settled_uncut}
+use Rattle.fp_part.specs.SettledLaws.{best_at_most, best_same, settled_next, settled_as_they_are}
 
 -- a pass leads from dies to those that it keeps, and the numbers of nets that both cut are known
 pub record IsPassed (p : Netlist) (dies next : List Die) (before now : ℕ) : Type 0 where

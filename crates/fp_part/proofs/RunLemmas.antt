@@ -1,6 +1,5 @@
 -- A pass, move by move.
-use Rattle.std.specs.Prelude.{◌≡◌, ℕ, zero, suc, ◌+◌, ◌<◌, ◌≤◌, ◌-◌, Bool, true, false, nat_lt, if◌then◌else◌, List, [], ◌∷◌, ◌++◌, length, map, replicate, set, take, drop, All, Option, Some, None}
-use Rattle.std.specs.List.{fold}
+use Rattle.std.specs.Prelude.{◌≡◌, ℕ, zero, suc, ◌+◌, ◌<◌, ◌≤◌, ◌-◌, Bool, true, false, nat_lt, if◌then◌else◌, List, [], ◌∷◌, ◌++◌, length, map, replicate, set, take, drop, Some, None}
 use Rattle.std.proofs.Common.{refl, ap, sym, subst, ◌∙◌, arith}
 use Rattle.std.proofs.lemmas.Bool.{cond-true, cond-false}
 use Rattle.std.proofs.lemmas.List.{length-set, length_push, take_all, take-append-le, take-append-drop, take_rest}
@@ -10,11 +9,11 @@ use Rattle.fp_base.specs.declared.ids.CellId.{CellId}
 use Rattle.fp_base.specs.declared.ids.Die.{Die}
 use Rattle.fp_netlist.specs.Netlist.{Netlist}
 use Rattle.fp_place.specs.Cut.{cut}
-use Rattle.fp_place.specs.Settled.{far_die, flipped, next_move, with_move, moves, none_moved, pass, first_fewest, best, KeepRules}
+use Rattle.fp_place.specs.Settled.{far_die, flipped, next_move, with_move, moves, pass, first_fewest, best, KeepRules}
 use Rattle.fp_part.specs.declared.walk.Fewest.{Fewest}
 use Rattle.fp_part.specs.declared.walk.Walk.{Walk}
 use Rattle.fp_part.specs.SettledLaws.{next_is, best_keeps}
-use Rattle.fp_part.specs.Walks.{after_moves, fewer, fewest_dies, IsReady, IsBegun, Advances, IsWalked, IsOnWay, IsRun}
+use Rattle.fp_part.specs.Walks.{after_moves, fewest_dies, IsBegun, Advances, IsWalked, IsOnWay, IsRun}
 
 abbrev flip_one : List Die → CellId → List Die
 flip_one dies cell = flipped dies cell.0
@@ -72,11 +71,11 @@ lower p start cell old new walked is = by (nat_lt new.cut old.fewest.cut) refl
     by : (lowers : Bool) → nat_lt new.cut old.fewest.cut ≡ lowers → IsLower p start old new
     by true lowers =
         let fewest : new.fewest ≡ record { cut = new.cut; moves = length new.moved.items } =
-            is.fewest_is ∙ cond-true (nat_lt new.cut old.fewest.cut) (record { cut = new.cut; moves = length new.moved.items }) old.fewest lowers in
+        is.fewest_is ∙ cond-true (nat_lt new.cut old.fewest.cut) (record { cut = new.cut; moves = length new.moved.items }) old.fewest lowers in
         let many : new.fewest.moves ≡ length new.moved.items = ap (λ (f : Fewest). f.moves) fewest in
         let dies : fewest_dies start new ≡ new.gains.dies =
-            ap (λ n. after_moves start (take n new.moved.items)) many ∙ ap (after_moves start) (take_all (length new.moved.items) new.moved.items (omega arith))
-            ∙ sym (now_after p start cell old new walked is) in
+        ap (λ n. after_moves start (take n new.moved.items)) many ∙ ap (after_moves start) (take_all (length new.moved.items) new.moved.items (omega arith))
+        ∙ sym (now_after p start cell old new walked is) in
         record {
           kept = omega (arith, many);
           fewest_is = ap (λ (f : Fewest). f.cut) fewest ∙ is.moved.ready.cut_is ∙ ap (cut p) (sym dies);
@@ -84,11 +83,11 @@ lower p start cell old new walked is = by (nat_lt new.cut old.fewest.cut) refl
         }
     by false lowers =
         let fewest : new.fewest ≡ old.fewest =
-            is.fewest_is ∙ cond-false (nat_lt new.cut old.fewest.cut) (record { cut = new.cut; moves = length new.moved.items }) old.fewest lowers in
+        is.fewest_is ∙ cond-false (nat_lt new.cut old.fewest.cut) (record { cut = new.cut; moves = length new.moved.items }) old.fewest lowers in
         let many : new.fewest.moves ≡ old.fewest.moves = ap (λ (f : Fewest). f.moves) fewest in
         let dies : fewest_dies start new ≡ fewest_dies start old =
-            ap (λ n. after_moves start (take n new.moved.items)) many ∙ ap (λ cells. after_moves start (take old.fewest.moves cells)) is.moves_are
-            ∙ ap (after_moves start) (take-append-le old.fewest.moves old.moved.items (cell ∷ []) walked.kept) in
+        ap (λ n. after_moves start (take n new.moved.items)) many ∙ ap (λ cells. after_moves start (take old.fewest.moves cells)) is.moves_are
+        ∙ ap (after_moves start) (take-append-le old.fewest.moves old.moved.items (cell ∷ []) walked.kept) in
         record {
           kept = omega (arith, many, walked.kept, longer);
           fewest_is = ap (λ (f : Fewest). f.cut) fewest ∙ walked.fewest_is ∙ ap (cut p) (sym dies);

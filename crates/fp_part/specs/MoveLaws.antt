@@ -29,9 +29,9 @@ area_moved p die new start zero (first ∷ others) below =
 area_moved p die new start (suc cell) (first ∷ others) below =
     let here : start + 1 + cell ≡ start + suc cell = omega arith in
     let later : area_from p die (start + 1) (set others cell new) + area_if p die (start + suc cell) (die_at others cell)
-          ≡ area_from p die (start + 1) others + area_if p die (start + suc cell) new =
-        subst (λ k. area_from p die (start + 1) (set others cell new) + area_if p die k (die_at others cell) ≡ area_from p die (start + 1) others + area_if p die k new)
-        here (area_moved p die new (start + 1) cell others (omega (arith, below))) in
+    ≡ area_from p die (start + 1) others + area_if p die (start + suc cell) new =
+    subst (λ k. area_from p die (start + 1) (set others cell new) + area_if p die k (die_at others cell) ≡ area_from p die (start + 1) others + area_if p die k new)
+    here (area_moved p die new (start + 1) cell others (omega (arith, below))) in
     omega (arith, later)
 
 area_flipped : (p : Netlist) (die : Die) (dies : List Die) (cell : ℕ) → cell < length dies
@@ -96,17 +96,17 @@ move_keeps p dies cell rules below may = record {
     fitting : (other : ℕ) → other < length p.cells → IsTrue (fits p other (die_at (flipped dies cell) other))
     fitting other there = ⊎_elim
         (λ (same : other ≡ cell). subst (λ k. IsTrue (fits p k (die_at (flipped dies cell) k))) (sym same)
-            (subst (λ die. IsTrue (fits p cell die)) (sym (get_or-set_same dies cell far Top within)) parts.0))
+        (subst (λ die. IsTrue (fits p cell die)) (sym (get_or-set_same dies cell far Top within)) parts.0))
         (λ (apart : other ≢ cell). subst (λ die. IsTrue (fits p other die)) (sym (get_or-set_other dies cell other far Top apart)) (rules.fitting other there))
         (cases_eq other cell)
 
     percents : (die : Die) → IsTrue (keeps p.plan die (area_on p die (flipped dies cell)))
     percents die = ⊎_elim
         (λ (own : die ≡ die_at dies cell). subst (λ d. IsTrue (keeps p.plan d (area_on p d (flipped dies cell)))) (sym own)
-            (keeps_less p.plan (die_at dies cell) (area_on p (die_at dies cell) (flipped dies cell)) (area_on p (die_at dies cell) dies)
-            (omega (arith, area_left p dies cell within)) (rules.percents (die_at dies cell))))
+        (keeps_less p.plan (die_at dies cell) (area_on p (die_at dies cell) (flipped dies cell)) (area_on p (die_at dies cell) dies)
+        (omega (arith, area_left p dies cell within)) (rules.percents (die_at dies cell))))
         (λ (other : die ≡ far). subst (λ d. IsTrue (keeps p.plan d (area_on p d (flipped dies cell)))) (sym other)
-            (subst (λ taken. IsTrue (keeps p.plan far taken)) (sym (area_entered p dies cell within)) parts.1))
+        (subst (λ taken. IsTrue (keeps p.plan far taken)) (sym (area_entered p dies cell within)) parts.1))
         (own_or_far (die_at dies cell) die)
 
 other_of_other : (die : Die) → other_die (other_die die) ≡ die

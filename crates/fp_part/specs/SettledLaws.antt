@@ -128,7 +128,7 @@ fewest_at_most p kept [] = omega arith
 fewest_at_most p kept (dies ∷ others) =
     let lower = if nat_lt (cut p dies) (cut p kept) then dies else kept in
     let no_more : cut p lower ≤ cut p kept =
-        cond_both (nat_lt (cut p dies) (cut p kept)) dies kept (λ these. cut p these ≤ cut p kept) (λ less. let lt = ltb-true (cut p dies) (cut p kept) less in omega (arith, lt)) (λ _. omega arith) in
+    cond_both (nat_lt (cut p dies) (cut p kept)) dies kept (λ these. cut p these ≤ cut p kept) (λ less. let lt = ltb-true (cut p dies) (cut p kept) less in omega (arith, lt)) (λ _. omega arith) in
     omega (arith, no_more, fewest_at_most p lower others)
 
 -- and of the second ones
@@ -137,7 +137,7 @@ unfolding first_fewest
 fewest_at_most_next p kept dies others =
     let lower = if nat_lt (cut p dies) (cut p kept) then dies else kept in
     let no_more : cut p lower ≤ cut p dies =
-        cond_both (nat_lt (cut p dies) (cut p kept)) dies kept (λ these. cut p these ≤ cut p dies) (λ _. omega arith) (λ more. ltb-false (cut p dies) (cut p kept) more) in
+    cond_both (nat_lt (cut p dies) (cut p kept)) dies kept (λ these. cut p these ≤ cut p dies) (λ _. omega arith) (λ more. ltb-false (cut p dies) (cut p kept) more) in
     omega (arith, no_more, fewest_at_most p lower others)
 
 -- what a pass keeps keeps the rules

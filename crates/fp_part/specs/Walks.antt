@@ -1,10 +1,10 @@
 -- A pass on its way: what is kept beside the dies, and what is left to do.
-use Rattle.std.specs.Prelude.{◌≡◌, ℕ, ◌+◌, ◌<◌, ◌≤◌, true, false, nat_lt, if◌then◌else◌, List, [], ◌∷◌, ◌++◌, length, set, take, All, vec_len}
+use Rattle.std.specs.Prelude.{◌≡◌, ℕ, ◌<◌, ◌≤◌, true, nat_lt, if◌then◌else◌, List, [], ◌∷◌, ◌++◌, length, set, take, All}
 use Rattle.std.specs.List.{fold}
 use Rattle.fp_base.specs.declared.ids.CellId.{CellId}
 use Rattle.fp_base.specs.declared.ids.Die.{Die}
 use Rattle.fp_base.specs.declared.ids.Die.TheVariants.{Top, Bottom}
-use Rattle.fp_netlist.specs.Netlist.{Netlist, IsSound}
+use Rattle.fp_netlist.specs.Netlist.{Netlist}
 use Rattle.fp_place.specs.Areas.{area_on}
 use Rattle.fp_place.specs.Cut.{cut}
 use Rattle.fp_place.specs.Held.{Held}

@@ -1,4 +1,4 @@
-use Rattle.std.proofs.Common.{◌≡◌, refl, ap, ◌∙◌, arith}
+use Rattle.std.proofs.Common.{arith}
 use Rattle.fp_part.proofs.AreaLemmas.{room_below, more_held, all_held}
 use Rattle.fp_part.proofs.areas.caps_of.Goals as goal
 

@@ -1,4 +1,4 @@
-use Rattle.std.proofs.Common.{◌≡◌, ◌<◌, ap, sym, ◌∙◌, arith}
+use Rattle.std.proofs.Common.{◌<◌, sym, ◌∙◌, arith}
 use Rattle.fp_part.specs.SettledLaws.{settled_uncut}
 use Rattle.fp_part.proofs.PassLemmas.{IsPassed, no_more, passes_on, last_pass}
 use Rattle.fp_part.proofs.passes.run_passes.Goals as goal

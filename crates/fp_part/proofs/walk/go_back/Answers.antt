@@ -1,4 +1,4 @@
-use Rattle.std.proofs.Common.{◌≡◌, ◌-◌, ◌+◌, ◌<◌, length, take, ap, sym, ◌∙◌, arith}
+use Rattle.std.proofs.Common.{◌≡◌, ◌-◌, ◌+◌, ◌<◌, length, take, ap, ◌∙◌, arith}
 use Rattle.fp_base.specs.declared.ids.CellId.{CellId}
 use Rattle.fp_part.specs.Walks.{after_moves}
 use Rattle.fp_part.proofs.BackLemmas.{one_back}
@@ -21,5 +21,5 @@ loop-back-preserved c =
       dies_are = λ start many first.
           c.flip.ensures.dies
           ∙ one_back start c.loop-back.gains.dies moved left place no_cell same below (omega (arith, many, c.requires.within place no_cell (omega arith)))
-              (c.loop-back.invariant.dies_are start many first ∙ ap (λ n. after_moves start (take n moved)) more);
+          (c.loop-back.invariant.dies_are start many first ∙ ap (λ n. after_moves start (take n moved)) more);
     }

@@ -1,4 +1,3 @@
-use Rattle.std.proofs.Common.{◌≡◌}
 use Rattle.fp_part.specs.SettledLaws.{next_is}
 use Rattle.fp_part.proofs.walk.Walk.advance.Goals as goal
 

@@ -1,4 +1,4 @@
-use Rattle.std.proofs.Common.{◌≡◌, pos, ◌+ℤ◌, ◌≤ℤ◌, FitsSigned, w64, true, length, set, refl, ap, sym, subst, ◌∙◌, arith, rules}
+use Rattle.std.proofs.Common.{◌≡◌, pos, ◌+ℤ◌, ◌≤ℤ◌, FitsSigned, w64, true, length, set, ap, sym, subst, ◌∙◌, arith, rules}
 use Rattle.std.proofs.lemmas.Int.{to_z-of_z}
 use Rattle.std.proofs.lemmas.List.{length-set}
 use Rattle.fp_place.specs.Cut.{cut}
@@ -7,8 +7,8 @@ use Rattle.fp_place.specs.Settled.{KeepRules}
 use Rattle.fp_part.specs.MoveLaws.{move_keeps}
 use Rattle.fp_part.specs.SettledLaws.{next_is}
 use Rattle.fp_part.specs.Walks.{held_by}
-use Rattle.fp_part.proofs.AreaLemmas.{IsCarried, room_to_move, still_held, held_after}
-use Rattle.fp_part.proofs.StepLemmas.{IsGainOf, gain_high, cut_after}
+use Rattle.fp_part.proofs.AreaLemmas.{room_to_move, still_held, held_after}
+use Rattle.fp_part.proofs.StepLemmas.{gain_high, cut_after}
 use Rattle.fp_part.proofs.walk.Walk.move_cell.Goals as goal
 
 pub add-requires-clause-room : goal.add-requires-clause-room

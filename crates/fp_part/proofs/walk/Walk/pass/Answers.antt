@@ -1,7 +1,7 @@
-use Rattle.std.proofs.Common.{◌≡◌, false, Bool, length, map, refl, ap, sym, subst, ◌∙◌}
+use Rattle.std.proofs.Common.{◌≡◌, false, Bool, length, refl, ap, sym, subst, ◌∙◌}
 use Rattle.std.proofs.lemmas.List.{length-map}
 use Rattle.fp_place.specs.Cut.{cut}
-use Rattle.fp_place.specs.Settled.{best, KeepRules}
+use Rattle.fp_place.specs.Settled.{KeepRules}
 use Rattle.fp_part.specs.SettledLaws.{best_keeps}
 use Rattle.fp_part.specs.Walks.{held_by}
 use Rattle.fp_part.proofs.RunLemmas.{back_at_best, all_unlocked}
@@ -11,14 +11,14 @@ pub caps_of-self-requires : goal.caps_of-self-requires
 caps_of-self-requires c =
     let p = c.args.problem.now in let start = c.args.self.now.gains.dies in
     let dies_are = back_at_best p start c.run.new.self c.deref.result.now c.go_back.new.gains.dies c.unlock_all.new.self.dies
-        c.requires.ready.rules c.in_ok-run.ensures c.deref.ensures.value c.go_back.ensures.dies c.unlock_all.ensures.dies in
+    c.requires.ready.rules c.in_ok-run.ensures c.deref.ensures.value c.go_back.ensures.dies c.unlock_all.ensures.dies in
     subst (KeepRules p) (sym (c.dies.ensures ∙ dies_are)) (best_keeps p start c.requires.ready.rules)
 
 pub returns-clause-begun : goal.returns-clause-begun
 returns-clause-begun c =
     let p = c.args.problem.now in let start = c.args.self.now.gains.dies in
     let dies_are = back_at_best p start c.run.new.self c.deref.result.now c.go_back.new.gains.dies c.unlock_all.new.self.dies
-        c.requires.ready.rules c.in_ok-run.ensures c.deref.ensures.value c.go_back.ensures.dies c.unlock_all.ensures.dies in
+    c.requires.ready.rules c.in_ok-run.ensures c.deref.ensures.value c.go_back.ensures.dies c.unlock_all.ensures.dies in
     let many : length c.go_back.new.gains.locked ≡ length p.cells = ap length c.go_back.ensures.locked ∙ c.in_ok-run.ensures.walked.ready.locks in
     record {
       ready = record {

@@ -1,4 +1,4 @@
-use Rattle.std.proofs.Common.{◌≡◌, ◌-◌, ◌+◌, suc, zero, None, Some, length, ap, sym, subst, ◌∙◌, arith}
+use Rattle.std.proofs.Common.{◌≡◌, ◌-◌, ◌+◌, suc, zero, Some, length, ap, sym, subst, ◌∙◌, arith}
 use Rattle.std.specs.Option.{option_map}
 use Rattle.fp_base.specs.declared.ids.CellId.{CellId}
 use Rattle.fp_place.specs.Settled.{next_move}
@@ -25,7 +25,7 @@ pub loop-preserved : goal.loop-preserved
 loop-preserved c =
     let p = c.args.problem.now in let start = c.args.self.now.gains.dies in let left = length p.cells - (c.loop.counter + 1) in
     let next : next_move p c.loop.self.gains.dies c.loop.self.gains.locked ≡ Some c.in-Some.cell.0 =
-        sym c.next_cell.ensures ∙ ap (option_map (λ (cell : CellId). cell.0)) c.in-Some.is in
+    sym c.next_cell.ensures ∙ ap (option_map (λ (cell : CellId). cell.0)) c.in-Some.is in
     let more : length p.cells - c.loop.counter ≡ suc left = omega (arith, c.loop-test.true, c.cells-end.ensures.count) in
     move_on p start left c.in-Some.cell c.loop.self c.advance.new.self (subst (λ n. IsOnWay p start n c.loop.self) more c.loop.invariant) next c.in_ok-advance.ensures
 
