@@ -150,10 +150,10 @@ later_moves p start walk moved is same =
 
 -- where they are taken back and all cells are unlocked, what the pass keeps is left
 pub back_at_best : (p : Netlist) (start : List Die) (run : Walk) (moved : List CellId) (back dies : List Die) → KeepRules p start → IsRun p start run → moved ≡ run.moved.items
-    → ((first : List Die) → length first ≡ length p.cells → run.gains.dies ≡ after_moves first (take (length moved - run.fewest.moves) (drop run.fewest.moves moved)) → back ≡ first)
+    → ((first : List Die) → length first ≡ length run.gains.dies → run.gains.dies ≡ after_moves first (take (length moved - run.fewest.moves) (drop run.fewest.moves moved)) → back ≡ first)
     → dies ≡ back → dies ≡ best p start
 back_at_best p start run moved back dies rules is same goes_back unlocked =
-    unlocked ∙ goes_back (best p start) (best_keeps p start rules).cells (later_moves p start run moved is same)
+    unlocked ∙ goes_back (best p start) ((best_keeps p start rules).cells ∙ sym is.walked.ready.rules.cells) (later_moves p start run moved is same)
 
 -- no cell is locked any more
 pub all_unlocked : (locked : List Bool) (n : ℕ) → length locked ≡ n → map (λ (_ : Bool). false) locked ≡ replicate n false

@@ -3,7 +3,7 @@
 ghost use Rattle.std.specs.Prelude.{◌≡◌, ◌<◌, ◌≤ℤ◌, ◌+ℤ◌, ◌^◌, All, IfOk, List, Some, [], length, pos};
 ghost use Rattle.std.specs.Option.{option_map};
 ghost use Rattle.fp_base.specs.declared.ids.Die.{Die};
-ghost use Rattle.fp_netlist.specs.Netlist.{IsSound};
+ghost use Rattle.fp_netlist.specs.Netlist.{IsSound, Netlist};
 ghost use Rattle.fp_place.specs.Settled.{best, next_move, KeepRules};
 ghost use Rattle.fp_gains.specs.Gained.{IsGainsOf};
 ghost use Rattle.fp_part.specs.Walks.{after_moves, fewer, IsReady, IsBegun, IsMoved, Advances, IsRun};
@@ -65,7 +65,7 @@ impl Walk {
         let die = self.gains.dies()[cell.0 as usize];
         self.caps.add(problem, cell, other(die));
         self.caps.take(problem, cell, die);
-        self.gains.flip(problem, cell);
+        self.gains.flip(cell);
         self.gains.lock(cell);
         self.cut = less(self.cut, gain);
     }
@@ -112,7 +112,7 @@ impl Walk {
         ensures dies { IfOk result (λ _. self.new.gains.dies ≡ best problem.now self.old.gains.dies) }
     {
         self.run(problem)?;
-        go_back(problem, &mut self.gains, &self.moved[self.fewest.moves..]);
+        go_back(&mut self.gains, &self.moved[self.fewest.moves..]);
         self.gains.unlock_all();
         self.caps = caps_of(problem, self.gains.dies());
         self.cut = self.fewest.cut;
@@ -143,15 +143,14 @@ fn fewer(fewest: Fewest, cut: u32, moves: usize) -> Fewest
 }
 
 // Takes back moves, the last one first.
-fn go_back(problem: &Problem, gains: &mut Gains, moved: &[CellId])
-    requires gains { IsGainsOf problem.now gains.old }
-    requires within { All (λ cell. cell.0 < length problem.now.cells) moved.now }
-    ensures gains { IsGainsOf problem.now gains.new }
+fn go_back(gains: &mut Gains, moved: &[CellId])
+    requires { All (λ cell. cell.0 < length gains.old.dies) moved.now }
+    ensures of_problem { (p : Netlist) → IsGainsOf p gains.old → IsGainsOf p gains.new }
     ensures locked { gains.new.locked ≡ gains.old.locked }
-    ensures dies { (start : List Die) → length start ≡ length problem.now.cells
+    ensures dies { (start : List Die) → length start ≡ length gains.old.dies
         → gains.old.dies ≡ after_moves start moved.now → gains.new.dies ≡ start }
 {
     for back in 0..moved.len() {
-        gains.flip(problem, moved[moved.len() - 1 - back]);
+        gains.flip(moved[moved.len() - 1 - back]);
     }
 }

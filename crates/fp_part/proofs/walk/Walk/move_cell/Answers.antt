@@ -48,7 +48,7 @@ returns-clause-moved c =
     let locked_are = c.lock.ensures.locked ∙ ap (λ locked. set locked cell true) c.flip.ensures.locked in
     record {
       ready = record {
-        gains_are = c.lock.ensures.gains p (c.flip.ensures.gains p c.requires.ready.gains_are);
+        gains_are = c.lock.ensures.of_problem p (c.flip.ensures.of_problem p c.requires.ready.gains_are);
         locks = ap length locked_are ∙ length-set c.args.self.now.gains.locked cell true ∙ c.requires.ready.locks;
         rules = subst (KeepRules p) (sym dies_are) (move_keeps p dies cell c.requires.ready.rules c.requires.cell (next_is p dies c.args.self.now.gains.locked cell c.requires.next).may);
         held_is = held_after p dies cell (die_at c.dies.result.now cell) c.other.result c.args.self.now.caps c.add.new.self c.take.new.self

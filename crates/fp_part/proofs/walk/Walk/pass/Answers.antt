@@ -22,7 +22,7 @@ returns-clause-begun c =
     let many : length c.go_back.new.gains.locked ≡ length p.cells = ap length c.go_back.ensures.locked ∙ c.in_ok-run.ensures.walked.ready.locks in
     record {
       ready = record {
-        gains_are = c.unlock_all.ensures.gains p c.go_back.ensures.gains;
+        gains_are = c.unlock_all.ensures.of_problem p (c.go_back.ensures.of_problem p c.in_ok-run.ensures.walked.ready.gains_are);
         locks = ap length c.unlock_all.ensures.locked ∙ length-map c.go_back.new.gains.locked (λ (_ : Bool). false) ∙ many;
         rules = subst (KeepRules p) (sym dies_are) (best_keeps p start c.requires.ready.rules);
         held_is = c.caps_of-self.ensures ∙ ap (held_by p) c.dies.ensures;
