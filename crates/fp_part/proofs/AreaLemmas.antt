@@ -113,3 +113,24 @@ held_after p dies cell own far held added taken is is_taken =
         → without_area (with_area (held_by p dies) (other_die die) (area p cell (other_die die))) die (area p cell die) ≡ held_by p (flipped dies cell)
     by Top left entered = same_held _ (held_by p (flipped dies cell)) (omega (arith, left)) (sym entered)
     by Bottom left entered = same_held _ (held_by p (flipped dies cell)) (sym entered) (omega (arith, left))
+
+-- a cell for which there is room leaves both percents kept
+pub still_kept : (p : Netlist) (held : Held) (cell : ℕ) (on die : Die) → IsTrue (has_room p held cell on) → IsTrue (keeps p.plan die (held_on held die))
+    → IsTrue (keeps p.plan die (held_on (with_area held on (area p cell on)) die))
+still_kept p held cell Top Top room kept = room
+still_kept p held cell Top Bottom room kept = kept
+still_kept p held cell Bottom Top room kept = kept
+still_kept p held cell Bottom Bottom room kept = room
+
+-- cells that were put on both dies one by one, each where it fits and has room, keep the rules
+pub all_kept : (p : Netlist) (dies : List Die) (held : Held) (cell : ℕ) → length dies ≡ length p.cells → length dies ≤ cell → AreHeldBelow p dies held cell
+    → ((k : ℕ) → k < cell → IsTrue (fits p k (die_at dies k))) → ((die : Die) → IsTrue (keeps p.plan die (held_on held die))) → KeepRules p dies
+all_kept p dies held cell many past all fit kept = record {
+  cells = many;
+  fitting = λ k below. fit k (omega (arith, below, many, past));
+  percents = λ die. by die (subst (λ h. IsTrue (keeps p.plan die (held_on h die))) (all_held p dies held cell all past) (kept die));
+}
+  where
+    by : (die : Die) → IsTrue (keeps p.plan die (held_on (held_by p dies) die)) → IsTrue (keeps p.plan die (area_on p die dies))
+    by Top is = is
+    by Bottom is = is

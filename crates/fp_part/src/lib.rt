@@ -6,3 +6,6 @@ mod passes;
 mod walk;
 
 pub use passes::settle;
+
+#[cfg(test)]
+mod tests;

@@ -24,5 +24,5 @@ loop-back-preserved c =
       dies_are = λ start many first.
           c.flip.ensures.dies
           ∙ one_back start now moved left place no_cell same below (omega (arith, many, c.requires place no_cell (omega arith)))
-              (c.loop-back.invariant.dies_are start many first ∙ ap (λ n. after_moves start (take n moved)) more);
+          (c.loop-back.invariant.dies_are start many first ∙ ap (λ n. after_moves start (take n moved)) more);
     }
