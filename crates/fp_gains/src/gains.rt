@@ -77,8 +77,9 @@ impl Gains {
         gain_of(self.state.ranks.keys[cell.0 as usize])
     }
 
-    /// Moves a cell to its other die, whether it is locked or not. It touches the cells of the cell's nets alone.
-    pub fn flip(&mut self, cell: CellId)
+    /// Moves a cell to its other die, whether it is locked or not. It touches the cells of the cell's nets alone. All that it needs of the
+    /// problem, which the gains are of, is kept here.
+    pub fn flip(&mut self, _problem: &Problem, cell: CellId)
         requires { cell.0 < length self.old.dies }
         ensures dies { self.new.dies ≡ flipped self.old.dies cell.0 }
         ensures locked { self.new.locked ≡ self.old.locked }

@@ -127,7 +127,7 @@ fn a_cell_that_comes_twice_in_a_net_counts_once(rt: HostRuntime) -> Result<(), F
     assert!(&rt; problem.cells() == 2);
     let mut gains = Gains::new(rt.alloc(), &problem, &[Die::Top, Die::Bottom])?;
     has_gains(&rt, &gains, &[1, 1]);
-    gains.flip(CellId(0));
+    gains.flip(&problem, CellId(0));
     has_gains(&rt, &gains, &[-1, -1]);
     Ok(())
 }
@@ -148,7 +148,7 @@ fn flips_change_gains_and_go_back(rt: HostRuntime) -> Result<(), Fail> {
     ] {
         for cell in flips.into_iter().flatten() {
             assert!(&rt; (cell as usize) < gains.dies().len());
-            gains.flip(CellId(cell));
+            gains.flip(&problem, CellId(cell));
         }
         assert!(&rt; gains.dies().len() == 4);
         assert_eq!(&rt; cut(&problem, gains.dies()), nets);

@@ -1,0 +1,6 @@
+pub mod AreaLemmas
+pub mod BackLemmas
+pub mod NextLemmas
+pub mod PassLemmas
+pub mod RunLemmas
+pub mod StepLemmas

@@ -1,0 +1,179 @@
+//! What no clause says: that memory is enough, and that the clauses mean what was meant.
+
+ghost use Rattle.std.specs.Prelude.{◌≡◌, ◌<◌, ◌&&◌, IsTrue, length};
+ghost use Rattle.fp_place.specs.Areas.{fits};
+ghost use Rattle.fp_place.specs.Held.{has_room};
+ghost use Rattle.fp_place.specs.Settled.{KeepRules};
+
+use crate::settle;
+use fp_base::{CellId, Die, LibId, TechId};
+use fp_netlist::{Problem, ProblemBuilder};
+use fp_place::Caps;
+use fp_tech::{BuildFault, DieSpec, Dies, Frame, TechBook, TermSpec};
+use std::alloc::Global;
+use std::process::Abort;
+use std::test::Fail;
+
+/// A technology with one library cell, of area 10.
+fn small_book(rt: &impl Abort, alloc: Global) -> Result<(TechBook, LibId), BuildFault> {
+    let mut book = TechBook::new(alloc);
+    let tech = book.add_tech(b"TA")?;
+    assert!(rt; tech.0 < book.techs());
+    let inverter = book.add_lib(tech, b"INV", 2, 5)?;
+    assert!(rt; tech.0 < book.techs());
+    assert!(rt; book.has(tech, inverter));
+    book.add_pin(tech, inverter, b"A", 1, 1)?;
+    Ok((book, inverter))
+}
+
+/// Dies in a frame of area 100, with a percent for each.
+fn small_dies(
+    rt: &impl Abort,
+    alloc: Global,
+    book: TechBook,
+    percents: (u32, u32),
+) -> Result<Dies, Fail> {
+    assert!(rt; percents.0 <= 100);
+    assert!(rt; percents.1 <= 100);
+    let frame = Frame {
+        llx: 0,
+        lly: 0,
+        urx: 10,
+        ury: 10,
+    };
+    let terminal = TermSpec {
+        size_x: 2,
+        size_y: 2,
+        spacing: 1,
+    };
+    assert!(rt; book.techs() == 1);
+    let top = DieSpec {
+        percent: percents.0,
+        tech: TechId(0),
+        start_x: 0,
+        start_y: 0,
+        length: 10,
+        height: 5,
+        repeat: 2,
+    };
+    let bottom = DieSpec {
+        percent: percents.1,
+        ..top
+    };
+    Ok(Dies::new(alloc, book, frame, top, bottom, terminal)?)
+}
+
+/// Adds so many cells.
+fn add_cells(
+    builder: &mut ProblemBuilder,
+    lib: LibId,
+    names: &[[u8; 1]],
+) -> Result<(), BuildFault> {
+    for name in names {
+        builder.add_inst(name, lib)?;
+    }
+    Ok(())
+}
+
+/// Adds a net of two cells.
+fn add_net(
+    rt: &impl Abort,
+    builder: &mut ProblemBuilder,
+    name: u8,
+    cells: (u32, u32),
+) -> Result<(), BuildFault> {
+    let net = builder.add_net(&[name])?;
+    for cell in [cells.0, cells.1] {
+        assert!(rt; net.0 < builder.nets());
+        assert!(rt; cell < builder.cells());
+        builder.connect(net, CellId(cell), b"A")?;
+    }
+    Ok(())
+}
+
+/// A problem of so many cells, with these nets and percents.
+fn problem(
+    rt: &impl Abort,
+    alloc: Global,
+    names: &[[u8; 1]],
+    nets: &[(u32, u32)],
+    percents: (u32, u32),
+) -> Result<Problem, Fail> {
+    let (book, lib) = small_book(rt, alloc)?;
+    let dies = small_dies(rt, alloc, book, percents)?;
+    let mut builder = ProblemBuilder::new(alloc, dies);
+    add_cells(&mut builder, lib, names)?;
+    let mut name = b'a';
+    for net in nets {
+        add_net(rt, &mut builder, name, *net)?;
+        name = name.saturating_add(1);
+    }
+    Ok(builder.finish()?)
+}
+
+/// Whether a cell fits a die and has room there.
+fn takes(problem: &Problem, caps: &Caps, cell: CellId, die: Die) -> bool
+    requires { cell.0 < length problem.now.cells }
+    ensures { result ≡ (fits problem.now cell.0 die && has_room problem.now caps.now cell.0 die) }
+{
+    let rows = problem.dies().spec(die).height;
+    problem.height(cell, die) <= i64::from(rows) && caps.room(problem, cell, die)
+}
+
+/// Whether dies keep the rules of heights and percents.
+fn keep_rules(problem: &Problem, dies: &[Die]) -> bool
+    requires { length dies.now ≡ length problem.now.cells }
+    ensures { IsTrue result → KeepRules problem.now dies.now }
+{
+    let mut caps = Caps::empty();
+    for number in 0..problem.cells() {
+        let cell = CellId(number);
+        let die = dies[number as usize];
+        if !takes(problem, &caps, cell, die) {
+            return false;
+        }
+        caps.add(problem, cell, die);
+    }
+    true
+}
+
+/// These dies settle so.
+fn settles(
+    rt: &impl Abort,
+    alloc: Global,
+    problem: &Problem,
+    from: &[Die],
+    expected: &[Die],
+) -> Result<(), Fail> {
+    assert!(rt; from.len() == problem.cells() as usize);
+    assert!(rt; keep_rules(problem, from));
+    let dies = settle(alloc, problem, from)?;
+    assert_eq!(rt; dies.as_slice(), expected);
+    Ok(())
+}
+
+#[test]
+fn cells_of_two_nets_join_where_most_of_them_are(rt: HostRuntime) -> Result<(), Fail> {
+    let problem = problem(
+        &rt,
+        rt.alloc(),
+        &[*b"u", *b"v", *b"w"],
+        &[(0, 1), (1, 2)],
+        (100, 100),
+    )?;
+    let from = [Die::Top, Die::Bottom, Die::Bottom];
+    settles(&rt, rt.alloc(), &problem, &from, &[Die::Bottom; 3])
+}
+
+#[test]
+fn two_cells_join_on_the_die_with_room(rt: HostRuntime) -> Result<(), Fail> {
+    for (percents, from, joined) in [
+        ((100, 100), [Die::Top, Die::Bottom], Die::Bottom),
+        ((10, 100), [Die::Bottom, Die::Top], Die::Bottom),
+        ((100, 10), [Die::Bottom, Die::Top], Die::Top),
+    ] {
+        let problem = problem(&rt, rt.alloc(), &[*b"u", *b"v"], &[(0, 1)], percents)?;
+        settles(&rt, rt.alloc(), &problem, &from, &[joined; 2])?;
+    }
+    Ok(())
+}

@@ -1,0 +1,156 @@
+//! A pass of single moves.
+
+ghost use Rattle.std.specs.Prelude.{◌≡◌, ◌<◌, ◌≤ℤ◌, ◌+ℤ◌, ◌^◌, All, IfOk, List, Some, [], length, pos};
+ghost use Rattle.std.specs.Option.{option_map};
+ghost use Rattle.fp_base.specs.declared.ids.Die.{Die};
+ghost use Rattle.fp_netlist.specs.Netlist.{IsSound, Netlist};
+ghost use Rattle.fp_place.specs.Settled.{best, next_move, KeepRules};
+ghost use Rattle.fp_gains.specs.Gained.{IsGainsOf};
+ghost use Rattle.fp_part.specs.Walks.{after_moves, fewer, IsReady, IsBegun, IsMoved, Advances, IsRun};
+
+use crate::areas::{caps_of, other};
+use fp_base::{CellId, Die, NoMemory};
+use fp_gains::Gains;
+use fp_netlist::Problem;
+use fp_place::{Caps, cut};
+use std::alloc::Global;
+
+/// The fewest cut nets of a pass so far, and after how many moves they were first reached.
+#[derive(Clone, Copy)]
+pub struct Fewest {
+    pub cut: u32,
+    pub moves: usize,
+}
+
+/// The dies in a pass, with the area that their cells take and the number of nets that they cut; the cells that the pass moved, in the
+/// order of the moves.
+#[derive(Drop)]
+pub struct Walk {
+    pub gains: Gains,
+    pub caps: Caps,
+    pub cut: u32,
+    pub moved: Vec<CellId>,
+    pub fewest: Fewest,
+}
+
+impl Walk {
+    /// The beginning of a pass from these dies.
+    pub fn new(alloc: Global, problem: &Problem, from: &[Die]) -> Result<Walk, NoMemory>
+        requires { KeepRules problem.now from.now }
+        ensures begun { IfOk result (IsBegun problem.now) }
+        ensures dies { IfOk result (λ walk. walk.gains.dies ≡ from.now) }
+    {
+        let gains = Gains::new(alloc, problem, from)?;
+        let cut = cut(problem, from);
+        Ok(Walk {
+            gains,
+            caps: caps_of(problem, from),
+            cut,
+            moved: Vec::new(alloc),
+            fewest: Fewest { cut, moves: 0 },
+        })
+    }
+
+    // Moves the next cell to its other die, and locks it.
+    fn move_cell(&mut self, problem: &Problem, cell: CellId)
+        requires sound { IsSound problem.now }
+        requires cell { cell.0 < length problem.now.cells }
+        requires ready { IsReady problem.now self.old }
+        requires next { next_move problem.now self.old.gains.dies self.old.gains.locked ≡ Some cell.0 }
+        ensures moved { IsMoved problem.now cell self.old self.new }
+        ensures same { self.new.moved ≡ self.old.moved }
+        ensures fewest { self.new.fewest ≡ self.old.fewest }
+    {
+        let gain = self.gains.gain(cell);
+        let die = self.gains.dies()[cell.0 as usize];
+        self.caps.add(problem, cell, other(die));
+        self.caps.take(problem, cell, die);
+        self.gains.flip(problem, cell);
+        self.gains.lock(cell);
+        self.cut = less(self.cut, gain);
+    }
+
+    // One move more.
+    fn advance(&mut self, problem: &Problem, cell: CellId) -> Result<(), NoMemory>
+        requires sound { IsSound problem.now }
+        requires ready { IsReady problem.now self.old }
+        requires next { next_move problem.now self.old.gains.dies self.old.gains.locked ≡ Some cell.0 }
+        ensures { IfOk result (λ _. Advances problem.now cell self.old self.new) }
+    {
+        self.move_cell(problem, cell);
+        self.moved.push(cell)?;
+        self.fewest = fewer(self.fewest, self.cut, self.moved.len());
+        Ok(())
+    }
+
+    // The cell that moves next.
+    fn next_cell(&self, problem: &Problem) -> Option<CellId>
+        requires { IsReady problem.now self.now }
+        ensures { option_map (λ cell. cell.0) result ≡ next_move problem.now self.now.gains.dies self.now.gains.locked }
+    {
+        self.gains.best_movable(problem, &self.caps)
+    }
+
+    // The moves of a pass, as far as a cell may move.
+    fn run(&mut self, problem: &Problem) -> Result<(), NoMemory>
+        requires { IsBegun problem.now self.old }
+        ensures { IfOk result (λ _. IsRun problem.now self.old.gains.dies self.new) }
+    {
+        for _ in 0..problem.cells() {
+            let Some(cell) = self.next_cell(problem) else {
+                return Ok(());
+            };
+            self.advance(problem, cell)?;
+        }
+        Ok(())
+    }
+
+    /// A whole pass, back to the first of its dies with the fewest cut nets, where the next pass begins.
+    pub fn pass(&mut self, problem: &Problem) -> Result<(), NoMemory>
+        requires { IsBegun problem.now self.old }
+        ensures begun { IfOk result (λ _. IsBegun problem.now self.new) }
+        ensures dies { IfOk result (λ _. self.new.gains.dies ≡ best problem.now self.old.gains.dies) }
+    {
+        self.run(problem)?;
+        go_back(problem, &mut self.gains, &self.moved[self.fewest.moves..]);
+        self.gains.unlock_all();
+        self.caps = caps_of(problem, self.gains.dies());
+        self.cut = self.fewest.cut;
+        self.moved.clear();
+        self.fewest.moves = 0;
+        Ok(())
+    }
+}
+
+// What is left of a number of cut nets after a move of this gain.
+fn less(cut: u32, gain: i64) -> u32
+    requires low { gain ≤ℤ pos cut }
+    requires high { pos cut ≤ℤ (gain +ℤ pos (2 ^ 18)) }
+    ensures { pos cut ≡ (pos result +ℤ gain) }
+{
+    (i64::from(cut) - gain) as u32
+}
+
+// The fewer of the fewest cut nets so far and those after these moves.
+fn fewer(fewest: Fewest, cut: u32, moves: usize) -> Fewest
+    ensures { result ≡ fewer fewest cut moves }
+{
+    if cut < fewest.cut {
+        Fewest { cut, moves }
+    } else {
+        fewest
+    }
+}
+
+// Takes back moves, the last one first.
+fn go_back(problem: &Problem, gains: &mut Gains, moved: &[CellId])
+    requires { All (λ cell. cell.0 < length gains.old.dies) moved.now }
+    ensures of_problem { (p : Netlist) → IsGainsOf p gains.old → IsGainsOf p gains.new }
+    ensures locked { gains.new.locked ≡ gains.old.locked }
+    ensures dies { (start : List Die) → length start ≡ length gains.old.dies
+        → gains.old.dies ≡ after_moves start moved.now → gains.new.dies ≡ start }
+{
+    for back in 0..moved.len() {
+        gains.flip(problem, moved[moved.len() - 1 - back]);
+    }
+}
