@@ -1,11 +1,11 @@
 //! What no clause says: that memory is enough, and that the clauses mean what was meant.
 
-ghost use Rattle.std.specs.Prelude.{◌≡◌, ◌<◌, ◌≤◌, IfOk, All, length};
+ghost use Rattle.std.specs.Prelude.{◌<◌, length};
 ghost use Rattle.fp_gains.specs.Gained.{IsGainsOf};
 
 use crate::Gains;
 use crate::tournament::{Leader, Tournament};
-use fp_base::{CellId, Die, LibId, NetId, NoMemory, TechId};
+use fp_base::{CellId, Die, LibId, TechId};
 use fp_netlist::{Problem, ProblemBuilder};
 use fp_place::{Caps, cut};
 use fp_tech::{BuildFault, DieSpec, Dies, Frame, TechBook, TermSpec};
@@ -51,14 +51,10 @@ fn small_dies(rt: &impl Abort, alloc: Global, book: TechBook) -> Result<Dies, Fa
     Ok(Dies::new(alloc, book, frame, spec, spec, terminal)?)
 }
 
-/// Adds so many cells.
-fn add_cells(
-    builder: &mut ProblemBuilder,
-    lib: LibId,
-    names: &[[u8; 1]],
-) -> Result<(), BuildFault> {
+/// Adds a cell for each of these names.
+fn add_cells(builder: &mut ProblemBuilder, lib: LibId, names: &[u8]) -> Result<(), BuildFault> {
     for name in names {
-        builder.add_inst(name, lib)?;
+        builder.add_inst(&[*name], lib)?;
     }
     Ok(())
 }
@@ -79,13 +75,8 @@ fn add_net(
     Ok(())
 }
 
-/// A problem of so many cells, with these nets.
-fn problem(
-    rt: &impl Abort,
-    alloc: Global,
-    cells: &[[u8; 1]],
-    nets: &[&[u32]],
-) -> Result<Problem, Fail> {
+/// A problem of a cell for each of these names, with these nets.
+fn problem(rt: &impl Abort, alloc: Global, cells: &[u8], nets: &[&[u32]]) -> Result<Problem, Fail> {
     let (book, lib) = small_book(rt, alloc)?;
     let dies = small_dies(rt, alloc, book)?;
     let mut builder = ProblemBuilder::new(alloc, dies);
@@ -107,27 +98,52 @@ fn has_gains(rt: &impl Abort, gains: &Gains, expected: &[i64]) {
     }
 }
 
+/// So many nets are cut.
+fn has_cut(rt: &impl Abort, problem: &Problem, gains: &Gains, nets: u32) {
+    assert!(rt; gains.dies().len() == problem.cells() as usize);
+    assert_eq!(rt; cut(problem, gains.dies()), nets);
+}
+
+/// Moves these cells, one after another.
+fn flip_all(rt: &impl Abort, problem: &Problem, gains: &mut Gains, cells: &[u32]) {
+    for cell in cells {
+        assert!(rt; (*cell as usize) < gains.dies().len());
+        gains.flip(problem, CellId(*cell));
+    }
+}
+
+/// The best cell of all, and the best of those but the first.
+fn best_two(problem: &Problem, gains: &mut Gains) -> [Option<CellId>; 2]
+    requires of_problem { IsGainsOf problem.now gains.old }
+    requires some { 0 < length gains.old.dies }
+{
+    let caps = Caps::empty();
+    let best = gains.best_movable(problem, &caps);
+    gains.lock(CellId(0));
+    [best, gains.best_movable(problem, &caps)]
+}
+
 #[test]
-fn a_chain_of_three_cells_has_gains(rt: HostRuntime) -> Result<(), Fail> {
-    let problem = problem(&rt, rt.alloc(), &[*b"u", *b"v", *b"w"], &[&[0, 1], &[1, 2]])?;
+fn a_locked_cell_is_not_the_best(rt: HostRuntime) -> Result<(), Fail> {
+    let problem = problem(&rt, rt.alloc(), b"uvw", &[&[0, 1], &[1, 2]])?;
     assert!(&rt; problem.cells() == 3);
     let dies = [Die::Top, Die::Bottom, Die::Bottom];
     let mut gains = Gains::new(rt.alloc(), &problem, &dies)?;
     has_gains(&rt, &gains, &[1, 0, -1]);
-    let caps = Caps::empty();
-    assert_eq!(&rt; gains.best_movable(&problem, &caps), Some(CellId(0)));
-    gains.lock(CellId(0));
-    assert_eq!(&rt; gains.best_movable(&problem, &caps), Some(CellId(1)));
+    assert_eq!(&rt;
+        best_two(&problem, &mut gains),
+        [Some(CellId(0)), Some(CellId(1))]
+    );
     Ok(())
 }
 
 #[test]
 fn a_cell_that_comes_twice_in_a_net_counts_once(rt: HostRuntime) -> Result<(), Fail> {
-    let problem = problem(&rt, rt.alloc(), &[*b"u", *b"v"], &[&[0, 0, 1]])?;
+    let problem = problem(&rt, rt.alloc(), b"uv", &[&[0, 0, 1]])?;
     assert!(&rt; problem.cells() == 2);
     let mut gains = Gains::new(rt.alloc(), &problem, &[Die::Top, Die::Bottom])?;
     has_gains(&rt, &gains, &[1, 1]);
-    gains.flip(&problem, CellId(0));
+    flip_all(&rt, &problem, &mut gains, &[0]);
     has_gains(&rt, &gains, &[-1, -1]);
     Ok(())
 }
@@ -135,26 +151,27 @@ fn a_cell_that_comes_twice_in_a_net_counts_once(rt: HostRuntime) -> Result<(), F
 #[test]
 fn flips_change_gains_and_go_back(rt: HostRuntime) -> Result<(), Fail> {
     let nets: [&[u32]; 4] = [&[0, 1, 2], &[2, 3], &[0, 3], &[1, 1]];
-    let problem = problem(&rt, rt.alloc(), &[*b"u", *b"v", *b"w", *b"x"], &nets)?;
+    let problem = problem(&rt, rt.alloc(), b"uvwx", &nets)?;
     assert!(&rt; problem.cells() == 4);
     let dies = [Die::Top, Die::Top, Die::Bottom, Die::Bottom];
     let mut gains = Gains::new(rt.alloc(), &problem, &dies)?;
-    assert_eq!(&rt; cut(&problem, gains.dies()), 2);
-    has_gains(&rt, &gains, &[1, 0, 0, 0]);
-    for (flips, nets, expected) in [
-        ([Some(0), None], 1, [-1, 1, -1, -2]),
-        ([Some(1), None], 0, [-2, -1, -2, -2]),
-        ([Some(1), Some(0)], 2, [1, 0, 0, 0]),
-    ] {
-        for cell in flips.into_iter().flatten() {
-            assert!(&rt; (cell as usize) < gains.dies().len());
-            gains.flip(&problem, CellId(cell));
-        }
-        assert!(&rt; gains.dies().len() == 4);
-        assert_eq!(&rt; cut(&problem, gains.dies()), nets);
-        has_gains(&rt, &gains, &expected);
-    }
+    follow_flips(&rt, &problem, &mut gains);
     Ok(())
+}
+
+/// Flips one after another, each with the cut nets and the gains after it.
+fn follow_flips(rt: &impl Abort, problem: &Problem, gains: &mut Gains) {
+    let steps: [(&[u32], u32, [i64; 4]); 4] = [
+        (&[], 2, [1, 0, 0, 0]),
+        (&[0], 1, [-1, 1, -1, -2]),
+        (&[1], 0, [-2, -1, -2, -2]),
+        (&[1, 0], 2, [1, 0, 0, 0]),
+    ];
+    for (flips, nets, expected) in &steps {
+        flip_all(rt, problem, gains, flips);
+        has_cut(rt, problem, gains, *nets);
+        has_gains(rt, gains, expected);
+    }
 }
 
 // The best of the first slots, slot by slot.
