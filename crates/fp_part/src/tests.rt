@@ -165,15 +165,26 @@ fn cells_of_two_nets_join_where_most_of_them_are(rt: HostRuntime) -> Result<(), 
     settles(&rt, rt.alloc(), &problem, &from, &[Die::Bottom; 3])
 }
 
+/// Two cells of one net, on these dies, join on a die.
+fn join(
+    rt: &impl Abort,
+    alloc: Global,
+    percents: (u32, u32),
+    from: (Die, Die),
+    joined: Die,
+) -> Result<(), Fail> {
+    let problem = problem(rt, alloc, &[*b"u", *b"v"], &[(0, 1)], percents)?;
+    settles(rt, alloc, &problem, &[from.0, from.1], &[joined, joined])
+}
+
 #[test]
 fn two_cells_join_on_the_die_with_room(rt: HostRuntime) -> Result<(), Fail> {
     for (percents, from, joined) in [
-        ((100, 100), [Die::Top, Die::Bottom], Die::Bottom),
-        ((10, 100), [Die::Bottom, Die::Top], Die::Bottom),
-        ((100, 10), [Die::Bottom, Die::Top], Die::Top),
+        ((100, 100), (Die::Top, Die::Bottom), Die::Bottom),
+        ((10, 100), (Die::Bottom, Die::Top), Die::Bottom),
+        ((100, 10), (Die::Bottom, Die::Top), Die::Top),
     ] {
-        let problem = problem(&rt, rt.alloc(), &[*b"u", *b"v"], &[(0, 1)], percents)?;
-        settles(&rt, rt.alloc(), &problem, &from, &[joined; 2])?;
+        join(&rt, rt.alloc(), percents, from, joined)?;
     }
     Ok(())
 }

@@ -1,4 +1,4 @@
-use Rattle.std.proofs.Common.{◌≡◌, subst, sym, ◌∙◌, ap}
+use Rattle.std.proofs.Common.{subst, sym, ◌∙◌, ap}
 use Rattle.fp_place.specs.Settled.{settled}
 use Rattle.fp_part.specs.SettledLaws.{SettlingKeeps, settling_keeps}
 use Rattle.fp_part.proofs.passes.settle.Goals as goal

@@ -1,4 +1,4 @@
-use Rattle.std.proofs.Common.{◌≡◌, ℕ, ◌+◌, ◌<◌, ◌&&◌, IsTrue, length, sym, ap, subst, ◌∙◌, ◌⊎◌, ⊎_elim, ◌≢◌, arith}
+use Rattle.std.proofs.Common.{◌≡◌, IsTrue, sym, subst, ◌∙◌, ⊎_elim, ◌≢◌, arith}
 use Rattle.std.proofs.lemmas.Bool.{and_parts, cases_eq}
 use Rattle.fp_place.specs.Areas.{fits, keeps}
 use Rattle.fp_place.specs.Held.{has_room, held_on}

@@ -1,7 +1,6 @@
 use Rattle.std.proofs.Common.{◌≡◌, ◌-◌, ◌+◌, ◌<◌, length, take, ap, ◌∙◌, arith}
 use Rattle.std.proofs.lemmas.List.{length-set}
 use Rattle.fp_base.specs.declared.ids.CellId.{CellId}
-use Rattle.fp_place.specs.Settled.{far_die}
 use Rattle.fp_part.specs.Walks.{after_moves}
 use Rattle.fp_part.proofs.BackLemmas.{one_back}
 use Rattle.fp_part.proofs.walk.go_back.Goals as goal
