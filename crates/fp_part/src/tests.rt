@@ -14,19 +14,32 @@ use std::alloc::Global;
 use std::process::Abort;
 use std::test::Fail;
 
-/// A technology with one library cell, of area 10.
-fn small_book(rt: &impl Abort, alloc: Global) -> Result<(TechBook, LibId), BuildFault> {
-    let mut book = TechBook::new(alloc);
-    let tech = book.add_tech(b"TA")?;
+/// A technology with one library cell, of this width and 10 high.
+fn add_tech(
+    rt: &impl Abort,
+    book: &mut TechBook,
+    name: &[u8],
+    width: u32,
+) -> Result<LibId, BuildFault> {
+    assert!(rt; width > 0 && width < 10);
+    let tech = book.add_tech(name)?;
     assert!(rt; tech.0 < book.techs());
-    let inverter = book.add_lib(tech, b"INV", 2, 5)?;
+    let lib = book.add_lib(tech, b"MC1", width, 10)?;
     assert!(rt; tech.0 < book.techs());
-    assert!(rt; book.has(tech, inverter));
-    book.add_pin(tech, inverter, b"A", 1, 1)?;
-    Ok((book, inverter))
+    assert!(rt; book.has(tech, lib));
+    book.add_pin(tech, lib, b"P1", 1, 1)?;
+    Ok(lib)
 }
 
-/// Dies in a frame of area 100, with a percent for each.
+/// Two technologies, with a library cell of area 40 and of area 50.
+fn small_book(rt: &impl Abort, alloc: Global) -> Result<(TechBook, LibId), BuildFault> {
+    let mut book = TechBook::new(alloc);
+    let lib = add_tech(rt, &mut book, b"TA", 4)?;
+    add_tech(rt, &mut book, b"TB", 5)?;
+    Ok((book, lib))
+}
+
+/// Dies in a frame of area 400, with a percent for each.
 fn small_dies(
     rt: &impl Abort,
     alloc: Global,
@@ -38,26 +51,27 @@ fn small_dies(
     let frame = Frame {
         llx: 0,
         lly: 0,
-        urx: 10,
-        ury: 10,
+        urx: 20,
+        ury: 20,
     };
     let terminal = TermSpec {
         size_x: 2,
         size_y: 2,
         spacing: 1,
     };
-    assert!(rt; book.techs() == 1);
+    assert!(rt; book.techs() == 2);
     let top = DieSpec {
         percent: percents.0,
         tech: TechId(0),
         start_x: 0,
         start_y: 0,
-        length: 10,
-        height: 5,
+        length: 20,
+        height: 10,
         repeat: 2,
     };
     let bottom = DieSpec {
         percent: percents.1,
+        tech: TechId(1),
         ..top
     };
     Ok(Dies::new(alloc, book, frame, top, bottom, terminal)?)
@@ -86,7 +100,7 @@ fn add_net(
     for cell in [cells.0, cells.1] {
         assert!(rt; net.0 < builder.nets());
         assert!(rt; cell < builder.cells());
-        builder.connect(net, CellId(cell), b"A")?;
+        builder.connect(net, CellId(cell), b"P1")?;
     }
     Ok(())
 }
@@ -181,8 +195,9 @@ fn join(
 fn two_cells_join_on_the_die_with_room(rt: HostRuntime) -> Result<(), Fail> {
     for (percents, from, joined) in [
         ((100, 100), (Die::Top, Die::Bottom), Die::Bottom),
-        ((10, 100), (Die::Bottom, Die::Top), Die::Bottom),
-        ((100, 10), (Die::Bottom, Die::Top), Die::Top),
+        ((10, 50), (Die::Top, Die::Bottom), Die::Bottom),
+        ((10, 50), (Die::Bottom, Die::Top), Die::Bottom),
+        ((100, 13), (Die::Bottom, Die::Top), Die::Top),
     ] {
         join(&rt, rt.alloc(), percents, from, joined)?;
     }
