@@ -1,14 +1,15 @@
 -- The columns of a stripe that may cost a row less than a limit.
-use Rattle.std.proofs.Common.{◌≡◌, ℕ, ◌+◌, ◌*◌, ◌%◌, ◌/◌, ◌<◌, ◌≤◌, ◌↔◌, All, length, get_or, ℤ, pos, ◌≤ℤ◌, sym, ap, subst, ◌∙◌, arith}
+use Rattle.std.proofs.Common.{◌≡◌, ℕ, ◌+◌, ◌-◌, ◌*◌, ◌%◌, ◌<◌, ◌≤◌, ◌↔◌, All, length, get_or, ℤ, pos, ◌≤ℤ◌, sym, ap, subst, ◌∙◌, arith}
 use Rattle.std.proofs.lemmas.Int.{ints}
+use Rattle.std.proofs.lemmas.Nat.{div-mul-add, mod-mul-add}
 use Rattle.fp_base.specs.declared.ids.Point.{Point}
 use Rattle.fp_tech.specs.Slots.{Slots, across, slot_count, column_x, row_y, centre_of}
 use Rattle.fp_tech.specs.SlotsLaws.{column_in}
 use Rattle.fp_match.specs.Prices.{IsNear}
 use Rattle.fp_slots.specs.declared.cut_net.CutNet.{CutNet}
-use Rattle.fp_slots.specs.CutNets.{length_with, IsNearNet, IsWindow}
-use Rattle.fp_slots.specs.Table.{SlotTable, row_at, cost_of, stripe_of}
-use Rattle.fp_slots.proofs.SlotLemmas.{row_of, column_of, first_of_row}
+use Rattle.fp_slots.specs.CutNets.{length_with, IsNearNet, IsWindow, IsShortOnEach}
+use Rattle.fp_slots.specs.Table.{SlotTable, row_at, cost_of, stripe_of, AreShort}
+use Rattle.fp_slots.proofs.SlotLemmas.{stripe_is, row_of, column_of, first_of_row}
 use Rattle.fp_slots.proofs.Tables.{AreNearSlots, cost_is, row_found, row_near}
 
 -- so many columns stand before an x
@@ -31,7 +32,7 @@ is_near table row stripe limit start end before until near near_slots window sta
       let in_row = column_in table.grid slot below in
       let late : ¬ (slot % across table.grid < until) = λ early. absurd (omega (arith, column, more, early)) in
       costs slot from to below (window.after (column_x table.grid (slot % across table.grid)) (omega (arith, ints, (near_slots slot below).right))
-          (not_less (column_x table.grid (slot % across table.grid)) end (λ less. late ((ends (slot % across table.grid) in_row).1 less))));
+      (not_less (column_x table.grid (slot % across table.grid)) end (λ less. late ((ends (slot % across table.grid) in_row).1 less))));
 }
   where
     it : CutNet
@@ -51,6 +52,44 @@ is_near table row stripe limit start end before until near near_slots window sta
         (ap (λ r. length_with it (record { x = pos (column_x table.grid (slot % across table.grid)); y = pos (row_y table.grid r) })) (sym (row_of table.grid stripe slot from to below)))
         (cost_is table row slot near (near_slots slot below))
 
+-- and no others
+are_short : (table : SlotTable) (row stripe limit start end before until : ℕ) → stripe * stripe_of table.grid < slot_count table.grid
+    → IsWindow (row_at table row) (pos (row_y table.grid stripe)) limit start end
+    → StandBefore table.grid start before → StandBefore table.grid end until → until ≤ across table.grid
+    → AreShort table row stripe limit (stripe * across table.grid + before) (stripe * across table.grid + until)
+are_short table row stripe limit start end before until below window starts ends most = record {
+  from = λ slot from to. omega (arith, width_is, from);
+  to = λ slot from to. omega (arith, width_is, to, most, wide_is);
+  short = λ slot from to.
+      let k : ℕ = slot - stripe * wide in
+      let is : stripe * wide + k ≡ slot = omega (arith, from) in
+      let counted : k < until = omega (arith, is, to) in
+      let in_row : k < wide = omega (arith, counted, most) in
+      let after : start ≤ column_x table.grid k = not_less (column_x table.grid k) start (λ less. absurd (omega (arith, is, from, (starts k in_row).1 less))) in
+      subst (λ s. IsShortOnEach it (centre_of table.grid s) limit) is (at k in_row (window.inside (column_x table.grid k) after ((ends k in_row).0 counted)));
+}
+  where
+    it : CutNet
+    it = row_at table row
+
+    wide : ℕ
+    wide = across table.grid
+
+    wide_is : stripe_of table.grid ≡ wide
+    wide_is = stripe_is table.grid (stripe * stripe_of table.grid) below
+
+    width_is : stripe * stripe_of table.grid ≡ stripe * wide
+    width_is = ap (λ w. stripe * w) wide_is
+
+    not_less : (a b : ℕ) → ¬ (a < b) → b ≤ a
+    not_less a b no_less = omega (arith, no_less)
+
+    at : (k : ℕ) → k < wide → IsShortOnEach it (record { x = pos (column_x table.grid k); y = pos (row_y table.grid stripe) }) limit
+        → IsShortOnEach it (centre_of table.grid (stripe * wide + k)) limit
+    at k in_row is =
+        subst (λ r. IsShortOnEach it (record { x = pos (column_x table.grid ((stripe * wide + k) % wide)); y = pos (row_y table.grid r) }) limit) (sym (div-mul-add stripe wide k in_row))
+        (subst (λ j. IsShortOnEach it (record { x = pos (column_x table.grid j); y = pos (row_y table.grid stripe) }) limit) (sym (mod-mul-add stripe wide k in_row)) is)
+
 -- what is counted from a first column and a step stands there
 stand : (grid : Slots) (wide first step x count : ℕ) → wide ≡ across grid → ((k : ℕ) → k < across grid → first + k * step ≡ column_x grid k)
     → ((k : ℕ) → k < wide → (k < count) ↔ (first + k * step < x)) → StandBefore grid x count
@@ -63,14 +102,19 @@ pub nears : (table now : SlotTable) (row stripe limit start end before until wid
     → found ≡ get_or table.rows row found → wide ≡ across table.grid → first ≡ centre_of table.grid (stripe * wide)
     → ((k : ℕ) → k < across table.grid → lowest + k * step ≡ column_x table.grid k)
     → IsWindow found first.y limit start end
-    → ((k : ℕ) → k < wide → (k < before) ↔ (lowest + k * step < start)) → ((k : ℕ) → k < wide → (k < until) ↔ (lowest + k * step < end))
+    → ((k : ℕ) → k < wide → (k < before) ↔ (lowest + k * step < start)) → ((k : ℕ) → k < wide → (k < until) ↔ (lowest + k * step < end)) → until ≤ wide
     → IsNear (cost_of now row) (slot_count now.grid) (stripe_of now.grid) stripe limit (stripe * wide + before) (stripe * wide + until)
-nears table now row stripe limit start end before until wide lowest step found first same near near_slots within below found_is wide_is first_is places window starts ends =
-    subst (λ (t : SlotTable). IsNear (cost_of t row) (slot_count t.grid) (stripe_of t.grid) stripe limit (stripe * wide + before) (stripe * wide + until)) same
-    (subst (λ w. IsNear (cost_of table row) (slot_count table.grid) (stripe_of table.grid) stripe limit (stripe * w + before) (stripe * w + until)) (sym wide_is)
-    (is_near table row stripe limit start end before until (row_near table row row_in near) near_slots there
-    (stand table.grid wide lowest step start before wide_is places starts) (stand table.grid wide lowest step end until wide_is places ends)))
+    × AreShort now row stripe limit (stripe * wide + before) (stripe * wide + until)
+nears table now row stripe limit start end before until wide lowest step found first same near near_slots within below found_is wide_is first_is places window starts ends most =
+    subst (λ (t : SlotTable). Both t wide) same (subst (λ w. Both table w) (sym wide_is) (
+      is_near table row stripe limit start end before until (row_near table row row_in near) near_slots there starts_there ends_there,
+      are_short table row stripe limit start end before until stripe_in there starts_there ends_there (omega (arith, most, wide_is)),
+    ))
   where
+    Both : SlotTable → ℕ → Type 0
+    Both t w = IsNear (cost_of t row) (slot_count t.grid) (stripe_of t.grid) stripe limit (stripe * w + before) (stripe * w + until)
+        × AreShort t row stripe limit (stripe * w + before) (stripe * w + until)
+
     row_in : row < length table.rows
     row_in = subst (λ (t : SlotTable). row < length t.rows) (sym same) within
 
@@ -83,3 +127,9 @@ nears table now row stripe limit start end before until wide lowest step found f
     there : IsWindow (row_at table row) (pos (row_y table.grid stripe)) limit start end
     there = subst (λ (n : CutNet). IsWindow n (pos (row_y table.grid stripe)) limit start end) (row_found table row found row_in found_is)
         (subst (λ y. IsWindow found y limit start end) high window)
+
+    starts_there : StandBefore table.grid start before
+    starts_there = stand table.grid wide lowest step start before wide_is places starts
+
+    ends_there : StandBefore table.grid end until
+    ends_there = stand table.grid wide lowest step end until wide_is places ends

@@ -1,5 +1,5 @@
 -- Where in x a terminal may make a net shorter than a limit.
-use Rattle.std.proofs.Common.{◌≡◌, ℕ, ◌+◌, ◌<◌, ◌≤◌, ◌^◌, ℤ, pos, ◌+ℤ◌, ◌-ℤ◌, ◌≤ℤ◌, unsigned_abs, ap, ◌∙◌, arith}
+use Rattle.std.proofs.Common.{◌≡◌, ℕ, ◌+◌, ◌<◌, ◌≤◌, ◌^◌, ℤ, pos, ◌+ℤ◌, ◌-ℤ◌, ◌≤ℤ◌, ◌<ℤ◌, ◌↔◌, unsigned_abs, ap, ◌∙◌, arith}
 use Rattle.std.specs.Int.{int_min, int_max}
 use Rattle.std.proofs.lemmas.Int.{ints, clamps, int_max_is, int_min_is}
 use Rattle.fp_score.specs.declared.reach.Reach.{Reach}
@@ -7,7 +7,7 @@ use Rattle.fp_score.specs.Reaches.{IsNearReach}
 use Rattle.fp_score.specs.ScoreLaws.{stretched_near}
 use Rattle.fp_score.specs.Score.{stretched, half_perimeter}
 use Rattle.fp_slots.specs.declared.cut_net.CutNet.{CutNet}
-use Rattle.fp_slots.specs.CutNets.{width_with, height_with, length_with, fixed_length, IsNearNet, IsWindow}
+use Rattle.fp_slots.specs.CutNets.{width_with, height_with, fixed_length, IsNearNet, IsWindow}
 use Rattle.fp_slots.proofs.Lengths.{pos_abs, span, wide}
 
 -- a terminal at a reach's left end adds nothing in x
@@ -50,6 +50,7 @@ reached widths width height limit fixed slack is enough added = omega (arith, in
 pub no_window : (it : CutNet) (y : ℤ) (limit fixed : ℕ) → pos fixed ≡ fixed_length it y → limit ≤ fixed → IsWindow it y limit 0 0
 no_window it y limit fixed is enough = record {
   before = λ x less. absurd (omega arith);
+  inside = λ x from to. absurd (omega arith);
   after = λ x most from. reached ((it.top.right -ℤ it.top.left) +ℤ (it.bottom.right -ℤ it.bottom.left)) (width_with it (pos x)) (height_with it y) limit fixed 0
       is (omega (arith, enough)) (none (none_less it.top.left it.top.right it.bottom.left it.bottom.right (pos x)));
 }
@@ -57,17 +58,46 @@ no_window it y limit fixed is enough = record {
     none : {a b : ℤ} → a ≤ℤ b → (a +ℤ pos 0) ≤ℤ b
     none {a} {b} less = omega (arith, ints, less)
 
+-- what is less than the slack from a reach adds less
+adds_less : (l r fixed : ℤ) (x limit slack left right : ℕ) → l ≤ℤ r → pos limit ≡ fixed +ℤ pos slack → 0 < slack → l ≤ℤ pos left → pos right ≤ℤ r
+    → left < x + slack → x < right + slack → (fixed +ℤ (span l r (pos x) -ℤ (r -ℤ l))) <ℤ pos limit
+adds_less l r fixed x limit slack left right wide is some left_is right_is after before = omega (arith, ints, clamps)
+
 -- what is less than the slack from both reaches
-pub is_window : (it : CutNet) (y : ℤ) (limit fixed slack left right start end : ℕ) → pos fixed ≡ fixed_length it y → limit ≤ fixed + slack
+pub is_window : (it : CutNet) (y : ℤ) (limit fixed slack left right start end : ℕ) → IsNearNet it → pos fixed ≡ fixed_length it y → limit ≡ fixed + slack → 0 < slack
     → pos left ≡ int_max it.top.left it.bottom.left → pos right ≡ int_min it.top.right it.bottom.right
-    → ((x : ℕ) → x < start → x + slack ≤ left) → ((x : ℕ) → x ≤ 2 ^ 31 → end ≤ x → right + slack ≤ x) → IsWindow it y limit start end
-is_window it y limit fixed slack left right start end is enough left_is right_is starts ends = record {
-  before = λ x less. reached ((it.top.right -ℤ it.top.left) +ℤ (it.bottom.right -ℤ it.bottom.left)) (width_with it (pos x)) (height_with it y) limit fixed slack is enough
-      (before_adds it.top.left it.top.right it.bottom.left it.bottom.right (pos x) slack (to_left x (int_max it.top.left it.bottom.left) left_is (starts x less)));
-  after = λ x most from. reached ((it.top.right -ℤ it.top.left) +ℤ (it.bottom.right -ℤ it.bottom.left)) (width_with it (pos x)) (height_with it y) limit fixed slack is enough
+    → ((x : ℕ) → (x < start) ↔ (x + slack ≤ left)) → ((x : ℕ) → x ≤ 2 ^ 31 → end ≤ x → right + slack ≤ x) → ((x : ℕ) → x < end → x < right + slack)
+    → IsWindow it y limit start end
+is_window it y limit fixed slack left right start end near is all some left_is right_is starts ends within = record {
+  before = λ x less. reached widths (width_with it (pos x)) (height_with it y) limit fixed slack is enough
+      (before_adds it.top.left it.top.right it.bottom.left it.bottom.right (pos x) slack (to_left x (int_max it.top.left it.bottom.left) left_is ((starts x).0 less)));
+  after = λ x most from. reached widths (width_with it (pos x)) (height_with it y) limit fixed slack is enough
       (after_adds it.top.left it.top.right it.bottom.left it.bottom.right (pos x) slack (to_right x (int_min it.top.right it.bottom.right) right_is (ends x most from)));
+  inside = λ x from to.
+      let after : left < x + slack = past x from in
+      record {
+        top = adds_less it.top.left it.top.right (fixed_length it y) x limit slack left right near.top.wide limit_is some
+            (omega (arith, ints, int_max_is it.top.left it.bottom.left, left_is)) (omega (arith, ints, int_min_is it.top.right it.bottom.right, right_is)) after (within x to);
+        bottom = adds_less it.bottom.left it.bottom.right (fixed_length it y) x limit slack left right near.bottom.wide limit_is some
+            (omega (arith, ints, int_max_is it.top.left it.bottom.left, left_is)) (omega (arith, ints, int_min_is it.top.right it.bottom.right, right_is)) after (within x to);
+      };
 }
   where
+    widths : ℤ
+    widths = (it.top.right -ℤ it.top.left) +ℤ (it.bottom.right -ℤ it.bottom.left)
+
+    enough : limit ≤ fixed + slack
+    enough = omega (arith, all)
+
+    limit_is : pos limit ≡ fixed_length it y +ℤ pos slack
+    limit_is = ap pos all ∙ ap (λ z. z +ℤ pos slack) is
+
+    past : (x : ℕ) → start ≤ x → left < x + slack
+    past x from = not_less (x + slack) left (λ less. absurd (omega (arith, from, (starts x).1 less)))
+      where
+        not_less : (a b : ℕ) → ¬ (a ≤ b) → b < a
+        not_less a b no_less = omega (arith, no_less)
+
     to_left : (x : ℕ) (z : ℤ) → pos left ≡ z → x + slack ≤ left → (pos x +ℤ pos slack) ≤ℤ z
     to_left x z is less = omega (arith, ints)
 

@@ -5,7 +5,7 @@ ghost use Rattle.fp_tech.specs.Slots.{slot_count, row_y, IsGrid};
 ghost use Rattle.fp_place.specs.Placed.{places_of, IsPlacementOf};
 ghost use Rattle.fp_match.specs.Prices.{IsFloor, IsNear};
 ghost use Rattle.fp_slots.specs.CutNets.{cut_nets, IsNearNet, IsLeastAt};
-ghost use Rattle.fp_slots.specs.Table.{row_at, net_of, cost_of, stripe_of, IsCostsOf};
+ghost use Rattle.fp_slots.specs.Table.{row_at, net_of, cost_of, stripe_of, AreShort, IsCostsOf};
 
 use crate::columns::Columns;
 use crate::cut_net::CutNet;
@@ -136,7 +136,8 @@ impl Costs for SlotCosts {
     fn near(&self, row: u32, stripe: u32, limit: u64) -> Range<u32>
         requires row_in { row < length self.now.rows }
         requires stripe_in { stripe * stripe_of self.now.grid < slot_count self.now.grid }
-        ensures { IsNear (cost_of self.now row) (slot_count self.now.grid) (stripe_of self.now.grid) stripe limit result.start result.end }
+        ensures near { IsNear (cost_of self.now row) (slot_count self.now.grid) (stripe_of self.now.grid) stripe limit result.start result.end }
+        ensures short { AreShort self.now row stripe limit result.start result.end }
     {
         let columns = Columns::of(&self.grid);
         let from = stripe * columns.count;

@@ -1,6 +1,6 @@
-use Rattle.std.proofs.Common.{◌≡◌, ◌<◌, ◌*◌, ◌-ℤ◌, unsigned_abs, FitsSigned, w64, rules, arith}
+use Rattle.std.proofs.Common.{◌≡◌, ◌<◌, ◌-ℤ◌, unsigned_abs, FitsSigned, w64, rules, arith}
 use Rattle.std.proofs.lemmas.Int.{to_z-of_z}
-use Rattle.fp_tech.specs.Slots.{across, pitch_x}
+use Rattle.fp_tech.specs.Slots.{across}
 use Rattle.fp_slots.proofs.SlotLemmas.{step_is, steps_are}
 use Rattle.fp_slots.proofs.columns.step.Goals as goal
 

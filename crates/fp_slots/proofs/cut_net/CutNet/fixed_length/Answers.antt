@@ -1,10 +1,7 @@
-use Rattle.std.proofs.Common.{◌≡◌, ◌∙◌, subst, sym, ◌+ℤ◌, ◌^◌, pos, FitsSigned, w64, rules, arith}
-use Rattle.std.proofs.lemmas.Int.{ints, to_z-of_z}
-use Rattle.fp_base.specs.declared.ids.Point.{Point}
-use Rattle.fp_score.specs.declared.reach.Reach.{Reach}
-use Rattle.fp_score.specs.Reaches.{IsNear, IsNearReach}
+use Rattle.std.proofs.Common.{◌≡◌, ◌∙◌, subst, sym, ◌+ℤ◌, FitsSigned, w64, rules}
+use Rattle.std.proofs.lemmas.Int.{to_z-of_z}
+use Rattle.fp_score.specs.Reaches.{IsNearReach}
 use Rattle.fp_score.specs.Score.{stretched, half_perimeter}
-use Rattle.fp_score.specs.ScoreLaws.{stretched_near}
 use Rattle.fp_slots.proofs.Windows.{fixed_by_axes, left_near}
 use Rattle.fp_slots.proofs.cut_net.CutNet.fixed_length.Goals as goal
 

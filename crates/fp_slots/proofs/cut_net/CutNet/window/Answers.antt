@@ -1,4 +1,4 @@
-use Rattle.std.proofs.Common.{◌≡◌, ◌∙◌, sym, ap, pos, unsigned_abs, FitsSigned, w64, rules, arith}
+use Rattle.std.proofs.Common.{◌≡◌, pos, unsigned_abs, FitsSigned, w64, rules, arith}
 use Rattle.std.specs.Int.{int_min, int_max}
 use Rattle.std.proofs.lemmas.Int.{to_z-of_z}
 use Rattle.fp_slots.specs.CutNets.{fixed_length}
@@ -26,7 +26,7 @@ returns c =
     let left : c.unsigned_abs-left.result ≡ unsigned_abs c.max.result = simp to_z-of_z at c.unsigned_abs-left.ensures.value in
     let right : c.unsigned_abs-right.result ≡ unsigned_abs c.min.result = simp to_z-of_z at c.unsigned_abs-right.ensures.value in
     is_window c.args.self c.args.y c.args.limit c.fixed_length.result c.saturating_sub-slack.result c.unsigned_abs-left.result c.unsigned_abs-right.result _ _
-    fixed (omega (arith, c.saturating_sub-slack.ensures))
+    c.requires.net fixed (omega (arith, c.saturating_sub-slack.ensures, c.if-slack-eq0.false)) (omega (arith, c.if-slack-eq0.false))
     (left_found c.args.self _ _ c.requires.net most left) (right_found c.args.self _ _ c.requires.net least right)
-    (λ x less. omega (arith, c.saturating_sub.ensures, less))
-    (λ x near past. omega (arith, c.saturating_add.ensures, near, past))
+    (λ x. (λ less. omega (arith, c.saturating_sub.ensures, less), λ less. omega (arith, c.saturating_sub.ensures, less)))
+    (λ x near past. omega (arith, c.saturating_add.ensures, near, past)) (λ x less. omega (arith, c.saturating_add.ensures, less))
