@@ -90,6 +90,11 @@ are_short table row stripe limit start end before until below window starts ends
         subst (λ r. IsShortOnEach it (record { x = pos (column_x table.grid ((stripe * wide + k) % wide)); y = pos (row_y table.grid r) }) limit) (sym (div-mul-add stripe wide k in_row))
         (subst (λ j. IsShortOnEach it (record { x = pos (column_x table.grid j); y = pos (row_y table.grid stripe) }) limit) (sym (mod-mul-add stripe wide k in_row)) is)
 
+-- all columns of the stripe that may cost the row less, and no others
+pub record AreNearColumns (table : SlotTable) (row stripe limit start end : ℕ) : Type 0 where
+  pub near : IsNear (cost_of table row) (slot_count table.grid) (stripe_of table.grid) stripe limit start end
+  pub short : AreShort table row stripe limit start end
+
 -- what is counted from a first column and a step stands there
 stand : (grid : Slots) (wide first step x count : ℕ) → wide ≡ across grid → ((k : ℕ) → k < across grid → first + k * step ≡ column_x grid k)
     → ((k : ℕ) → k < wide → (k < count) ↔ (first + k * step < x)) → StandBefore grid x count
@@ -103,18 +108,14 @@ pub nears : (table now : SlotTable) (row stripe limit start end before until wid
     → ((k : ℕ) → k < across table.grid → lowest + k * step ≡ column_x table.grid k)
     → IsWindow found first.y limit start end
     → ((k : ℕ) → k < wide → (k < before) ↔ (lowest + k * step < start)) → ((k : ℕ) → k < wide → (k < until) ↔ (lowest + k * step < end)) → until ≤ wide
-    → IsNear (cost_of now row) (slot_count now.grid) (stripe_of now.grid) stripe limit (stripe * wide + before) (stripe * wide + until)
-    × AreShort now row stripe limit (stripe * wide + before) (stripe * wide + until)
+    → AreNearColumns now row stripe limit (stripe * wide + before) (stripe * wide + until)
 nears table now row stripe limit start end before until wide lowest step found first same near near_slots within below found_is wide_is first_is places window starts ends most =
-    subst (λ (t : SlotTable). Both t wide) same (subst (λ w. Both table w) (sym wide_is) (
-      is_near table row stripe limit start end before until (row_near table row row_in near) near_slots there starts_there ends_there,
-      are_short table row stripe limit start end before until stripe_in there starts_there ends_there (omega (arith, most, wide_is)),
-    ))
+    subst (λ (t : SlotTable). AreNearColumns t row stripe limit (stripe * wide + before) (stripe * wide + until)) same
+    (subst (λ w. AreNearColumns table row stripe limit (stripe * w + before) (stripe * w + until)) (sym wide_is) (record {
+      near = is_near table row stripe limit start end before until (row_near table row row_in near) near_slots there starts_there ends_there;
+      short = are_short table row stripe limit start end before until stripe_in there starts_there ends_there (omega (arith, most, wide_is));
+    }))
   where
-    Both : SlotTable → ℕ → Type 0
-    Both t w = IsNear (cost_of t row) (slot_count t.grid) (stripe_of t.grid) stripe limit (stripe * w + before) (stripe * w + until)
-        × AreShort t row stripe limit (stripe * w + before) (stripe * w + until)
-
     row_in : row < length table.rows
     row_in = subst (λ (t : SlotTable). row < length t.rows) (sym same) within
 

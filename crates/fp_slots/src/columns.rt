@@ -6,7 +6,7 @@ ghost use Rattle.fp_tech.specs.Slots.{across, slot_count, column_x, pitch_x};
 use fp_base::SlotId;
 use fp_tech::Grid;
 
-/// The columns of slots: so many, the first at `first` and each next one `step` further.
+/// The columns of a grid in x: so many, the first at `first` and each next one `step` further.
 #[derive(Clone, Copy)]
 pub(crate) struct Columns {
     pub(crate) count: u32,
@@ -32,7 +32,7 @@ impl Columns {
         }
     }
 
-    /// How many columns stand before this x, which is the first one at or past it.
+    /// How many columns stand before this x. As a column's number it is the first one at or past it.
     pub(crate) fn before(self, x: u64) -> u32
         requires { 0 < self.step }
         ensures most { result ≤ self.count }
