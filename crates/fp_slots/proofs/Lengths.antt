@@ -40,15 +40,15 @@ length_near it centre is near =
     (let P : ℤ → Type 0 = λ z. (pos 0 ≤ℤ z) × (z ≤ℤ pos (2 ^ 33)) in subst P same both)
 
 -- how far a reach goes with one more number
-abbrev span : ℤ → ℤ → ℤ → ℤ
+abbrev pub span : ℤ → ℤ → ℤ → ℤ
 span l r x = int_max r x -ℤ int_min l x
 
-record IsWide (l r x width : ℤ) : Type 0 where
-  whole : (r -ℤ l) ≤ℤ width
-  from_left : (x -ℤ l) ≤ℤ width
-  to_right : (r -ℤ x) ≤ℤ width
+pub record IsWide (l r x width : ℤ) : Type 0 where
+  pub whole : (r -ℤ l) ≤ℤ width
+  pub from_left : (x -ℤ l) ≤ℤ width
+  pub to_right : (r -ℤ x) ≤ℤ width
 
-wide : (l r x : ℤ) → IsWide l r x (span l r x)
+pub wide : (l r x : ℤ) → IsWide l r x (span l r x)
 wide l r x = record {
   whole = omega (arith, ints, clamps);
   from_left = omega (arith, ints, clamps);

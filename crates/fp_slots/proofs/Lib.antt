@@ -1,5 +1,7 @@
+pub mod ColumnLemmas
 pub mod Lengths
 pub mod Rows
 pub mod SlotLemmas
 pub mod SmallLanes
 pub mod Tables
+pub mod Windows

@@ -1,13 +1,15 @@
 -- The centres of slots, and the slots of one y.
-use Rattle.std.proofs.Common.{◌≡◌, ℕ, zero, suc, ◌+◌, ◌-◌, ◌*◌, ◌/◌, ◌<◌, ◌≤◌, ◌==◌, if◌then◌else◌, pos, sym, ap, subst, ◌∙◌, arith}
+use Rattle.std.proofs.Common.{◌≡◌, ℕ, zero, suc, ◌+◌, ◌-◌, ◌*◌, ◌/◌, ◌%◌, ◌<◌, ◌≤◌, ◌==◌, if◌then◌else◌, pos, ◌-ℤ◌, unsigned_abs, sym, ap, subst, ◌∙◌, arith}
 use Rattle.std.proofs.lemmas.Bool.Decides.{nat_tests}
 use Rattle.std.proofs.lemmas.Int.{ints}
-use Rattle.std.proofs.lemmas.Nat.{div-mul-add}
+use Rattle.std.proofs.lemmas.Nat.{div-mul-add, div-add-mod'}
+use Rattle.std.proofs.Math.Nat.{mod-eq_of_lt}
+use Rattle.fp_base.specs.declared.ids.Point.{Point}
 use Rattle.fp_tech.specs.declared.dies.Frame.{Frame}
 use Rattle.fp_tech.specs.declared.dies.TermSpec.{TermSpec}
 use Rattle.fp_tech.specs.Plan.{IsFrame, IsTermSpec}
-use Rattle.fp_tech.specs.Slots.{Slots, across, up, slot_count, row_y, centre_of, KeepsEdges, IsGrid}
-use Rattle.fp_tech.specs.SlotsLaws.{slot_keeps_edges}
+use Rattle.fp_tech.specs.Slots.{Slots, pitch_x, across, up, slot_count, column_x, row_y, centre_of, KeepsEdges, IsGrid}
+use Rattle.fp_tech.specs.SlotsLaws.{slot_keeps_edges, step_some}
 use Rattle.fp_score.specs.Reaches.{IsNear}
 use Rattle.fp_slots.specs.Table.{stripe_of}
 
@@ -24,6 +26,12 @@ centre_near frame terminal grid is_frame is_terminal is slot below =
       low = omega (arith, ints);
       high = omega (arith, ints, keeps.high, framed.upper);
     }
+
+-- a grid has a step
+pub step_of_grid : (frame : Frame) (terminal : TermSpec) (grid : Slots) → IsTermSpec terminal → IsGrid frame terminal grid → 0 < grid.stride * pitch_x grid.terminal
+step_of_grid frame terminal grid is_terminal is =
+    let here : IsTermSpec grid.terminal = subst IsTermSpec (sym is.terminal_is) is_terminal in
+    step_some grid.stride grid.terminal.size_x grid.terminal.spacing is.some_stride here.some_x
 
 -- a stripe is a row of slots, where there are any
 pub stripe_is : (grid : Slots) (slot : ℕ) → slot < slot_count grid → stripe_of grid ≡ across grid
@@ -58,3 +66,33 @@ first_of_row grid stripe below =
 
 pub first_below : (grid : Slots) (stripe : ℕ) → stripe * stripe_of grid < slot_count grid → stripe * across grid < slot_count grid
 first_below grid stripe below = subst (λ width. stripe * width < slot_count grid) (stripe_is grid (stripe * stripe_of grid) below) below
+
+-- the next slot of a row stands a step further
+pub step_is : (grid : Slots) (step : ℕ) (first second : Point) → 1 < across grid → first ≡ centre_of grid 0 → second ≡ centre_of grid 1
+    → step ≡ unsigned_abs (second.x -ℤ first.x) → step ≡ grid.stride * pitch_x grid.terminal
+unfolding column_x
+step_is grid step first second two first_is second_is is =
+    is
+    ∙ (λ i. unsigned_abs ((second_is i).x -ℤ (first_is i).x))
+    ∙ (λ i. unsigned_abs (pos (column_x grid (second_at i)) -ℤ pos (column_x grid (first_at i))))
+    ∙ ap unsigned_abs apart
+  where
+    first_at : 0 % across grid ≡ 0
+    first_at = mod-eq_of_lt (omega (arith, two))
+
+    second_at : 1 % across grid ≡ 1
+    second_at = mod-eq_of_lt two
+
+    apart : pos (column_x grid 1) -ℤ pos (column_x grid 0) ≡ pos (grid.stride * pitch_x grid.terminal)
+    apart = omega (arith, ints)
+
+-- and so each slot of a row is so many steps from the first
+pub steps_are : (grid : Slots) (step : ℕ) → step ≡ grid.stride * pitch_x grid.terminal → (k : ℕ) → column_x grid 0 + k * step ≡ column_x grid k
+unfolding column_x
+steps_are grid step is k = omega (arith, ap (λ n. k * n) is)
+
+-- a slot of a stripe is in the column that it is past the stripe's first
+pub column_of : (grid : Slots) (stripe slot : ℕ) → stripe * stripe_of grid ≤ slot → slot < stripe * stripe_of grid + stripe_of grid → slot < slot_count grid
+    → stripe * across grid + slot % across grid ≡ slot
+column_of grid stripe slot from to below =
+    omega (arith, ap (λ row. row * across grid) (row_of grid stripe slot from to below), div-add-mod' slot (across grid))

@@ -29,7 +29,7 @@ abbrev pub AreNearSlots : Slots → Type 0
 AreNearSlots grid = (slot : ℕ) → slot < slot_count grid → IsNear (centre_of grid slot)
 
 -- a cost is the length
-cost_is : (table : SlotTable) (row slot : ℕ) → IsNearNet (row_at table row) → IsNear (centre_of table.grid slot)
+pub cost_is : (table : SlotTable) (row slot : ℕ) → IsNearNet (row_at table row) → IsNear (centre_of table.grid slot)
     → pos (cost_of table row slot) ≡ length_with (row_at table row) (centre_of table.grid slot)
 cost_is table row slot near centre =
     pos_abs (length_with (row_at table row) (centre_of table.grid slot)) (length_near (row_at table row) (centre_of table.grid slot) near centre).0
@@ -110,10 +110,10 @@ costs_of p placed table is rows near near_slots = record {
         (rows_are p (places_of placed) (length p.nets) (omega arith) row (omega (arith, within, ap length rows)))
 
 -- a row that is read is there, and in range
-row_found : (table : SlotTable) (row : ℕ) (found : CutNet) → row < length table.rows → found ≡ get_or table.rows row found → found ≡ row_at table row
+pub row_found : (table : SlotTable) (row : ℕ) (found : CutNet) → row < length table.rows → found ≡ get_or table.rows row found → found ≡ row_at table row
 row_found table row found within is = is ∙ get_or_default table.rows row found no_net within
 
-row_near : (table : SlotTable) (row : ℕ) → row < length table.rows → All IsNearNet table.rows → IsNearNet (row_at table row)
+pub row_near : (table : SlotTable) (row : ℕ) → row < length table.rows → All IsNearNet table.rows → IsNearNet (row_at table row)
 row_near table row within near = All-get_or IsNearNet table.rows row no_net within near
 
 -- the length that a floor is

@@ -1,5 +1,5 @@
 -- Cut nets in file order, and how long each is with its terminal somewhere.
-use Rattle.std.specs.Prelude.{◌≡◌, ℕ, zero, suc, List, [], ◌++◌, Option, Some, None, ℤ, pos, ◌+ℤ◌, ◌-ℤ◌, ◌≤ℤ◌}
+use Rattle.std.specs.Prelude.{◌≡◌, ℕ, zero, suc, List, [], ◌++◌, Option, Some, None, ℤ, pos, ◌+ℤ◌, ◌-ℤ◌, ◌≤ℤ◌, ◌<ℤ◌, ◌<◌, ◌≤◌, ◌^◌}
 use Rattle.std.specs.Int.{int_min, int_max}
 use Rattle.std.specs.Option.{option_to_list}
 use Rattle.fp_base.specs.declared.ids.NetId.{NetId}
@@ -54,3 +54,22 @@ best_x it = int_max it.top.left it.bottom.left
 pub record IsNearNet (it : CutNet) : Type 0 where
   pub top : IsNearReach it.top
   pub bottom : IsNearReach it.bottom
+
+-- how long a net is with its terminal at that y, without what the terminal's x adds
+abbrev pub fixed_length : CutNet → ℤ → ℤ
+fixed_length it y = ((it.top.right -ℤ it.top.left) +ℤ (it.bottom.right -ℤ it.bottom.left)) +ℤ height_with it y
+
+-- how much longer in x a reach gets with a terminal at that x
+abbrev pub added : Reach → ℤ → ℤ
+added reach x = (int_max reach.right x -ℤ int_min reach.left x) -ℤ (reach.right -ℤ reach.left)
+
+-- with what a terminal's x adds on either die alone, the net is shorter than the limit
+pub record IsShortOnEach (it : CutNet) (centre : Point) (limit : ℕ) : Type 0 where
+  pub top : (fixed_length it centre.y +ℤ added it.top centre.x) <ℤ pos limit
+  pub bottom : (fixed_length it centre.y +ℤ added it.bottom centre.x) <ℤ pos limit
+
+-- a terminal at that y makes the net shorter than the limit nowhere but from `start` up to, without, `end`, and there it does on either die alone
+pub record IsWindow (it : CutNet) (y : ℤ) (limit start end : ℕ) : Type 0 where
+  pub before : (x : ℕ) → x < start → pos limit ≤ℤ length_with it (record { x = pos x; y = y })
+  pub after : (x : ℕ) → x ≤ 2 ^ 31 → end ≤ x → pos limit ≤ℤ length_with it (record { x = pos x; y = y })
+  pub inside : (x : ℕ) → start ≤ x → x < end → IsShortOnEach it (record { x = pos x; y = y }) limit

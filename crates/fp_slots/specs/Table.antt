@@ -1,5 +1,5 @@
 -- Cut nets and slots, and what each slot costs each net.
-use Rattle.std.specs.Prelude.{◌≡◌, ℕ, ◌<◌, ◌==◌, true, if◌then◌else◌, List, length, get_or, set, Some, pos, unsigned_abs}
+use Rattle.std.specs.Prelude.{◌≡◌, ℕ, ◌+◌, ◌*◌, ◌<◌, ◌≤◌, ◌==◌, true, if◌then◌else◌, List, length, get_or, set, Some, pos, unsigned_abs}
 use Rattle.fp_base.specs.declared.ids.Point.{Point}
 use Rattle.fp_tech.specs.Slots.{Slots, across, slot_count, centre_of}
 use Rattle.fp_netlist.specs.Netlist.{Netlist}
@@ -9,7 +9,7 @@ use Rattle.fp_place.specs.Placed.{Placed, places_of}
 use Rattle.fp_score.specs.Reaches.{pins_reached}
 use Rattle.fp_score.specs.Score.{net_length}
 use Rattle.fp_slots.specs.declared.cut_net.CutNet.{CutNet}
-use Rattle.fp_slots.specs.CutNets.{length_with}
+use Rattle.fp_slots.specs.CutNets.{length_with, IsShortOnEach}
 
 pub record SlotTable : Type 0 where
   pub rows : List CutNet
@@ -37,6 +37,12 @@ cost_of table row slot = unsigned_abs (length_with (row_at table row) (centre_of
 -- the slots of one y are a stripe
 abbrev pub stripe_of : Slots → ℕ
 stripe_of grid = if slot_count grid == 0 then 1 else across grid
+
+-- the slots of a range are of the stripe, and the row's net is shorter than the limit with what each adds on either die alone
+pub record AreShort (table : SlotTable) (row stripe limit start end : ℕ) : Type 0 where
+  pub from : (slot : ℕ) → start ≤ slot → slot < end → stripe * stripe_of table.grid ≤ slot
+  pub to : (slot : ℕ) → start ≤ slot → slot < end → slot < stripe * stripe_of table.grid + stripe_of table.grid
+  pub short : (slot : ℕ) → start ≤ slot → slot < end → IsShortOnEach (row_at table row) (centre_of table.grid slot) limit
 
 -- a row is a cut net: of the nets before it so many are cut as there are rows before it
 pub record IsRowOf (p : Netlist) (places : List Place) (row : ℕ) (it : CutNet) : Type 0 where

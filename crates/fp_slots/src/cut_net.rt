@@ -1,11 +1,12 @@
 //! A net that is cut, by what its pins reach.
 
-ghost use Rattle.std.specs.Prelude.{◌≡◌, ◌≤◌, ◌^◌, pos};
+ghost use Rattle.std.specs.Prelude.{◌≡◌, ◌<◌, ◌≤◌, ◌^◌, ◌≤ℤ◌, ℕ, pos};
 ghost use Rattle.fp_score.specs.Reaches.{IsNear};
-ghost use Rattle.fp_slots.specs.CutNets.{cut_net_of, length_with, best_x, IsNearNet};
+ghost use Rattle.fp_slots.specs.CutNets.{cut_net_of, length_with, fixed_length, best_x, IsNearNet, IsWindow};
 
 use fp_base::{NetId, Point};
 use fp_score::{Reach, Reaches};
+use std::ops::Range;
 
 /// A cut net, and what its pins reach on each die.
 #[derive(Clone, Copy)]
@@ -44,5 +45,40 @@ impl CutNet {
         ensures { result ≡ best_x self }
     {
         self.top.left.max(self.bottom.left)
+    }
+
+    /// What the net is long with its terminal at that y, without what the terminal's x adds on either die.
+    pub(crate) fn fixed_length(self, y: i64) -> u64
+        requires net { IsNearNet self }
+        requires least { pos 0 ≤ℤ y }
+        requires most { y ≤ℤ pos (2 ^ 31) }
+        ensures { pos result ≡ fixed_length self y }
+    {
+        let top = Point {
+            x: self.top.left,
+            y,
+        };
+        let bottom = Point {
+            x: self.bottom.left,
+            y,
+        };
+        self.top.stretched(top).half_perimeter() + self.bottom.stretched(bottom).half_perimeter()
+    }
+
+    /// Where in x a terminal at that y may make the net shorter than the limit: where what it adds on each die alone is less than what the
+    /// fixed length leaves. Nowhere, if that leaves nothing.
+    pub(crate) fn window(self, y: i64, limit: u64) -> Range<u64>
+        requires net { IsNearNet self }
+        requires least { pos 0 ≤ℤ y }
+        requires most { y ≤ℤ pos (2 ^ 31) }
+        ensures { IsWindow self y limit result.start result.end }
+    {
+        let slack = limit.saturating_sub(self.fixed_length(y));
+        if slack == 0 {
+            return 0..0;
+        }
+        let left = self.top.left.max(self.bottom.left).unsigned_abs();
+        let right = self.top.right.min(self.bottom.right).unsigned_abs();
+        (left + 1).saturating_sub(slack)..right.saturating_add(slack)
     }
 }

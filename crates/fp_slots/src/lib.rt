@@ -1,6 +1,7 @@
 //! What it costs to give a cut net's terminal a slot.
 #![tactic(auto)]
 
+mod columns;
 mod cut_net;
 mod slot_costs;
 

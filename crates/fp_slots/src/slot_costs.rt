@@ -3,10 +3,11 @@
 ghost use Rattle.std.specs.Prelude.{◌≡◌, ◌<◌, ◌≤◌, ◌*◌, ◌^◌, All, IfOk, length, pos};
 ghost use Rattle.fp_tech.specs.Slots.{slot_count, row_y, IsGrid};
 ghost use Rattle.fp_place.specs.Placed.{places_of, IsPlacementOf};
-ghost use Rattle.fp_match.specs.Prices.{IsFloor};
+ghost use Rattle.fp_match.specs.Prices.{IsFloor, IsNear};
 ghost use Rattle.fp_slots.specs.CutNets.{cut_nets, IsNearNet, IsLeastAt};
-ghost use Rattle.fp_slots.specs.Table.{row_at, net_of, cost_of, stripe_of, IsCostsOf};
+ghost use Rattle.fp_slots.specs.Table.{row_at, net_of, cost_of, stripe_of, AreShort, IsCostsOf};
 
+use crate::columns::Columns;
 use crate::cut_net::CutNet;
 use fp_base::{NetId, NoMemory, Point, SlotId};
 use fp_match::Costs;
@@ -16,6 +17,7 @@ use fp_score::net_reaches;
 use fp_tech::Grid;
 use std::alloc::Global;
 use std::marker::Model;
+use std::ops::Range;
 
 /// What it costs to give a cut net's terminal a slot: the net's length with its terminal there. Rows are the cut nets in file order, columns
 /// the slots of a grid, and a stripe is the slots of one y. No cost is kept: each is computed from what the net's pins reach on each die.
@@ -128,5 +130,21 @@ impl Costs for SlotCosts {
             x: row.best_x(),
             y: first.y,
         })
+    }
+
+    /// The slots of the stripe that stand where the row's net may be shorter than the limit.
+    fn near(&self, row: u32, stripe: u32, limit: u64) -> Range<u32>
+        requires row_in { row < length self.now.rows }
+        requires stripe_in { stripe * stripe_of self.now.grid < slot_count self.now.grid }
+        ensures near { IsNear (cost_of self.now row) (slot_count self.now.grid) (stripe_of self.now.grid) stripe limit result.start result.end }
+        ensures short { AreShort self.now row stripe limit result.start result.end }
+    {
+        let columns = Columns::of(&self.grid);
+        let from = stripe * columns.count;
+        let first = self.grid.centre(SlotId(from));
+        let window = self.rows[row as usize].window(first.y, limit);
+        let start = from + columns.before(window.start);
+        let end = from + columns.before(window.end);
+        start..end
     }
 }

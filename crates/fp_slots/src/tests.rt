@@ -133,6 +133,7 @@ fn costs_and_floors_by_hand(rt: HostRuntime) -> Result<(), Fail> {
     assert!(&rt; costs.columns() == 36);
     expect_costs(&rt, &costs);
     expect_floors(&rt, &costs);
+    expect_near(&rt, &costs);
     assert_eq!(&rt; solved(rt.alloc(), &costs)?, (0, 2));
     Ok(())
 }
@@ -155,6 +156,17 @@ fn expect_floors(rt: &impl Abort, costs: &SlotCosts)
     assert!(rt; costs.stripe() == 6);
     for (stripe, floor) in [2, 6, 12, 18, 24, 30].iter().enumerate() {
         assert_eq!(rt; costs.floor(0, stripe as u32), *floor);
+    }
+}
+
+/// The slots of the second stripe that may cost the row less than these limits: none, the three at x 2, 5 and 8, and all.
+fn expect_near(rt: &impl Abort, costs: &SlotCosts)
+    requires row { length costs.now.rows ≡ 1 }
+    requires slots { slot_count costs.now.grid ≡ 36 }
+{
+    assert!(rt; costs.stripe() == 6);
+    for (limit, near) in [(4, 6..6), (14, 6..9), (u64::MAX, 6..12)].iter() {
+        assert_eq!(rt; costs.near(0, 1, *limit), *near);
     }
 }
 
