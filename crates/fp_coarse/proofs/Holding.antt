@@ -22,7 +22,7 @@ use Rattle.fp_place.specs.Places.{die_at, same_die}
 use Rattle.fp_place.specs.Placed.{LaneList, lanes_on, entry_at, StandOnce}
 use Rattle.fp_score.specs.FirstFit.{segment_at}
 use Rattle.fp_score.specs.Pick.{Taken, sorted_by, taken_width, is_open, reach_cost, point_at, nearest_open, or_no_row, taken_by, cells_on, widest_first, pick_on, in_order, lanes_by}
-use Rattle.fp_coarse.specs.Nearest.{AreSegments, IsFirstLeast}
+use Rattle.fp_coarse.specs.Nearest.{AreSegments, IsLeastOrNone}
 use Rattle.fp_coarse.specs.Picking.{HoldAll, lane_width}
 use Rattle.fp_coarse.proofs.Counting.{same, same_other, count, counts_at, stands_in, one_place, range_most, range_holds, range_passes, segment_of, counts_on, counts_all, sum_most, counts_there, counts_once}
 use Rattle.fp_coarse.proofs.Firsts.{least_is}
@@ -95,7 +95,7 @@ all_sound p targets die (cell ∷ cells) before taken sound e =
           ∙ append_assoc (map (λ (t : Taken). t.cell) before) (cell ∷ []) cells;
     }
 
-    by : (o : Option ℕ) → IsFirstLeast (is_open p die before cell) (λ segment. reach_cost (segment_at p.plan die segment) (width p cell die) (point_at targets cell)) 0 (length (segments p.plan die)) o
+    by : (o : Option ℕ) → IsLeastOrNone (is_open p die before cell) (λ segment. reach_cost (segment_at p.plan die segment) (width p cell die) (point_at targets cell)) 0 (length (segments p.plan die)) o
         → or_no_row cell o (λ segment. taken_by p die targets (before ++ record { cell = cell; segment = segment } ∷ []) cells) ≡ Ok taken
         → ((segment : ℕ) → AreSound p die (before ++ record { cell = cell; segment = segment } ∷ [])
         → taken_by p die targets (before ++ record { cell = cell; segment = segment } ∷ []) cells ≡ Ok taken

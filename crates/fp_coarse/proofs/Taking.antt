@@ -20,7 +20,7 @@ use Rattle.fp_score.specs.FirstFit.{segment_at, no_segment}
 use Rattle.fp_score.specs.Pick.{Taken, taken_width, is_open, reach_cost, point_at, nearest_open, or_no_row, taken_by}
 use Rattle.fp_coarse.specs.declared.order.Choice.{Choice}
 use Rattle.fp_coarse.specs.Rooms.{lengths, has_free}
-use Rattle.fp_coarse.specs.Nearest.{at, cost_at, AreSegments, AreFree, IsFirstLeast}
+use Rattle.fp_coarse.specs.Nearest.{at, cost_at, AreSegments, AreFree, IsLeastOrNone}
 use Rattle.fp_coarse.specs.Orders.{numbers_of, taken_as, taken_of}
 use Rattle.fp_coarse.specs.Picking.{AreLeft, IsNearest, IsChoice, lowered, taken_in}
 use Rattle.fp_coarse.proofs.Firsts.{least_is, least_once, least_alike}

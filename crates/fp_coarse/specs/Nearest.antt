@@ -18,9 +18,9 @@ pub record IsLeast (passes : ℕ → Bool) (cost : ℕ → ℕ) (low high found 
   pub first : (other : ℕ) → low ≤ other → other < found → IsTrue (passes other) → cost found < cost other
 
 -- the first of least cost, or none where none passes
-abbrev pub IsFirstLeast : (ℕ → Bool) → (ℕ → ℕ) → ℕ → ℕ → Option ℕ → Type 0
-IsFirstLeast passes cost low high None = (other : ℕ) → low ≤ other → other < high → passes other ≡ false
-IsFirstLeast passes cost low high (Some found) = IsLeast passes cost low high found
+abbrev pub IsLeastOrNone : (ℕ → Bool) → (ℕ → ℕ) → ℕ → ℕ → Option ℕ → Type 0
+IsLeastOrNone passes cost low high None = (other : ℕ) → low ≤ other → other < high → passes other ≡ false
+IsLeastOrNone passes cost low high (Some found) = IsLeast passes cost low high found
 
 -- the same, with its cost beside it
 pub record IsFound (passes : ℕ → Bool) (cost : ℕ → ℕ) (low high : ℕ) (found : Found) : Type 0 where

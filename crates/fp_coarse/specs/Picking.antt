@@ -17,7 +17,7 @@ use Rattle.fp_coarse.specs.declared.picking.Picked.{Picked}
 use Rattle.fp_coarse.specs.declared.picking.Picked.TheVariants.{Rows, NoRow}
 use Rattle.fp_coarse.specs.declared.order.Choice.{Choice}
 use Rattle.fp_coarse.specs.Rooms.{has_free}
-use Rattle.fp_coarse.specs.Nearest.{IsNearPoint, IsFirstLeast, cost_at}
+use Rattle.fp_coarse.specs.Nearest.{IsNearPoint, IsLeastOrNone, cost_at}
 use Rattle.fp_coarse.specs.Orders.{numbers_of}
 
 -- one die and one target for each cell; each cell fits its die, and targets are within 2^32 of 0
@@ -45,7 +45,7 @@ pub record IsChoice (p : Netlist) (die : Die) (choice : Choice) : Type 0 where
 -- of the segments with room for a cell, the first to which it is moved least, or none where none has room
 abbrev pub IsNearest : Netlist → List Point → Die → List ℤ → ℕ → Option ℕ → Type 0
 IsNearest p targets die free cell found =
-    IsFirstLeast (has_free free (pos (width p cell die))) (cost_at (segments p.plan die) (pos (width p cell die)) (point_at targets cell)) 0 (length (segments p.plan die)) found
+    IsLeastOrNone (has_free free (pos (width p cell die))) (cost_at (segments p.plan die) (pos (width p cell die)) (point_at targets cell)) 0 (length (segments p.plan die)) found
 
 -- a segment's free length falls by a width
 abbrev pub lowered : List ℤ → ℕ → ℕ → List ℤ

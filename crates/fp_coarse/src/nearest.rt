@@ -3,7 +3,7 @@
 ghost use Rattle.std.specs.Prelude.{◌≡◌, ℕ, ◌+◌, ◌-◌, ◌<◌, ◌≤◌, ◌^◌, ◌≤ℤ◌, ◌<ℤ◌, ◌+ℤ◌, ◌-ℤ◌, pos, Bool, true, false, Option, Some, None, IsTrue, MatchOption, length, unsigned_abs};
 ghost use Rattle.std.specs.Int.{int_min, int_max};
 ghost use Rattle.fp_score.specs.Pick.{distance_to};
-ghost use Rattle.fp_coarse.specs.Nearest.{IsFirstLeast, IsNear, IsNearPoint, at, reach_to, IsSegment, AreSegments, IsHull, CanSearch, IsBestOf, is_beaten, is_passed, earlier, later, cost_at, AreFree};
+ghost use Rattle.fp_coarse.specs.Nearest.{IsLeastOrNone, IsNear, IsNearPoint, at, reach_to, IsSegment, AreSegments, IsHull, CanSearch, IsBestOf, is_beaten, is_passed, earlier, later, cost_at, AreFree};
 ghost use Rattle.fp_coarse.specs.Rooms.{has_free, AreRooms};
 
 use crate::rooms::Rooms;
@@ -266,7 +266,7 @@ pub fn nearest(
     requires some { pos 1 ≤ℤ width }
     requires small { width ≤ℤ pos (2 ^ 30) }
     requires target { IsNearPoint target }
-    ensures { IsFirstLeast (has_free rooms.now.free.items width) (cost_at segments.now width target) 0 (length segments.now) result }
+    ensures { IsLeastOrNone (has_free rooms.now.free.items width) (cost_at segments.now width target) 0 (length segments.now) result }
 {
     let aim = aim_at(hull, width, target);
     match search(segments, rooms, aim) {

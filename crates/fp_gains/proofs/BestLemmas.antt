@@ -11,7 +11,8 @@ use Rattle.fp_place.specs.Areas.{fits}
 use Rattle.fp_place.specs.Held.{Held, has_room}
 use Rattle.fp_place.specs.Places.{die_at, same_die, other_die}
 use Rattle.fp_place.specs.Cut.{cut}
-use Rattle.fp_place.specs.Settled.{far_die, flipped, is_moved, or_lower, first_least}
+use Rattle.fp_place.specs.FirstLeast.{IsFirstLeast, NonePasses, first_least_some, none_least}
+use Rattle.fp_place.specs.Settled.{far_die, flipped, is_moved, first_least}
 use Rattle.fp_gains.specs.declared.tournament.Leader.{Leader}
 use Rattle.fp_gains.specs.declared.state.State.{State}
 use Rattle.fp_gains.specs.Contests.{IsBehind, IsBetter}
@@ -20,75 +21,6 @@ use Rattle.fp_gains.specs.Gained.{Gained, IsGainsOf, is_movable}
 use Rattle.fp_gains.specs.Kept.{even, is_free, free_key, Shows, IsKept, gained_of}
 use Rattle.fp_gains.proofs.CutLemmas.{key_tells}
 use Rattle.fp_gains.proofs.StateLemmas.{key_small}
-
--- a first least number is in range and passes
-some_there : (passes : ℕ → Bool) (cost : ℕ → ℕ) (number k : ℕ) (found : Option ℕ) → or_lower passes cost number found ≡ Some k → (found ≡ Some k) ⊎ ((k ≡ number) × (passes k ≡ true))
-some_there passes cost number k None e = by (passes number) refl e
-  where
-    by : (b : Bool) → passes number ≡ b → (if b then Some number else None) ≡ Some k → (None ≡ Some k) ⊎ ((k ≡ number) × (passes k ≡ true))
-    by true passing e = let same : number ≡ k = same_Some number k e in inr (sym same, subst (λ j. passes j ≡ true) same passing)
-    by false fails e = inl e
-some_there passes cost number k (Some least) e = by (passes number) (nat_lt (cost number) (cost least)) refl e
-  where
-    by : (a b : Bool) → passes number ≡ a → (if a && b then Some number else Some least) ≡ Some k → (Some least ≡ Some k) ⊎ ((k ≡ number) × (passes k ≡ true))
-    by true true passing e = let same : number ≡ k = same_Some number k e in inr (sym same, subst (λ j. passes j ≡ true) same passing)
-    by true false passing e = inl e
-    by false b fails e = inl e
-
-first_least_there : (passes : ℕ → Bool) (cost : ℕ → ℕ) (bound k : ℕ) → first_least passes cost bound ≡ Some k → (k < bound) × (passes k ≡ true)
-unfolding first_least
-first_least_there passes cost zero k e = absurd (let nothing : None ≡ Some k = e in cc)
-first_least_there passes cost (suc bound) k e = elim (some_there passes cost bound k (first_least passes cost bound) e) [
-  | inl before ↦ let is = first_least_there passes cost bound k before in (omega (arith, is.0), is.1)
-  | inr (same, passing) ↦ (omega (arith, same), passing)
-]
-
--- where none passes there is none
-first_least_none : (passes : ℕ → Bool) (cost : ℕ → ℕ) (bound : ℕ) → ((k : ℕ) → k < bound → passes k ≡ false) → first_least passes cost bound ≡ None
-unfolding first_least
-first_least_none passes cost zero none = refl
-first_least_none passes cost (suc bound) none =
-    ap (or_lower passes cost bound) (first_least_none passes cost bound (λ k less. none k (omega arith)))
-    ∙ ap (λ b. if b then Some bound else None) (none bound (omega arith))
-
--- a number that passes, below which each that passes costs more, and above which none costs less
-pub record IsFirst (passes : ℕ → Bool) (cost : ℕ → ℕ) (bound best : ℕ) : Type 0 where
-  pub within : best < bound
-  pub passing : passes best ≡ true
-  pub least : (k : ℕ) → k < bound → passes k ≡ true → cost best ≤ cost k
-  pub first : (k : ℕ) → k < best → passes k ≡ true → cost best < cost k
-
-takes : (passes : ℕ → Bool) (cost : ℕ → ℕ) (number : ℕ) (found : Option ℕ) → passes number ≡ true → ((k : ℕ) → found ≡ Some k → cost number < cost k) → or_lower passes cost number found ≡ Some number
-takes passes cost number None passing less = ap (λ b. if b then Some number else None) passing
-takes passes cost number (Some least) passing less =
-    ap (λ b. if b then Some number else Some least) (and_from (passes number) (nat_lt (cost number) (cost least)) passing (lt-ltb (cost number) (cost least) (less least refl)))
-
-keeps : (passes : ℕ → Bool) (cost : ℕ → ℕ) (number best : ℕ) → (passes number ≡ true → cost best ≤ cost number) → or_lower passes cost number (Some best) ≡ Some best
-keeps passes cost number best least = by (passes number) refl
-  where
-    by : (b : Bool) → passes number ≡ b → (if b && nat_lt (cost number) (cost best) then Some number else Some best) ≡ Some best
-    by true passing = ap (λ b. if b then Some number else Some best) (le-ltb (cost number) (cost best) (least passing))
-    by false fails = refl
-
-first_least_some : (passes : ℕ → Bool) (cost : ℕ → ℕ) (bound best : ℕ) → IsFirst passes cost bound best → first_least passes cost bound ≡ Some best
-unfolding first_least
-first_least_some passes cost zero best is = absurd (omega (arith, is.within))
-first_least_some passes cost (suc bound) best is =
-    by (best == bound) refl
-    (λ before. first_least_some passes cost bound best (record { within = before; passing = is.passing; least = λ k less. is.least k (omega arith); first = is.first }))
-  where
-    by : (b : Bool) → (best == bound) ≡ b → (best < bound → first_least passes cost bound ≡ Some best) → or_lower passes cost bound (first_least passes cost bound) ≡ Some best
-    by true e rest =
-        let same : bound ≡ best = grind (arith, nat_tests) in
-        takes passes cost bound (first_least passes cost bound) (ap passes same ∙ is.passing) (λ k found.
-        let there = first_least_there passes cost bound k found in
-        let less : cost best < cost k = is.first k (omega (arith, there.0, same)) there.1 in
-        subst (λ j. cost j < cost k) (sym same) less)
-        ∙ ap Some same
-    by false e rest =
-        let before : best < bound = grind (arith, nat_tests, is.within) in
-        ap (or_lower passes cost bound) (rest before)
-        ∙ keeps passes cost bound best (is.least bound (omega arith))
 
 -- a cell that an order shows is free to move to its die
 free_parts : (dies : List Die) (locked : List Bool) (die : Die) (cell : ℕ) → is_free dies locked die cell ≡ true → (not (is_moved locked cell) ≡ true) × (far_die dies cell ≡ die)
@@ -215,9 +147,9 @@ beaten p held g keys leader cell read chosen within movable = elim (two_dies (fa
 ]
 
 pub chosen_first : (p : Netlist) (held : Held) (g : Gained) (keys : List ℕ) (leader : Leader) → IsRead p g keys → IsChosen p held g keys leader
-    → IsFirst (is_movable p held g) (λ cell. cut p (flipped g.dies cell)) (length p.cells) leader.cell.0
+    → IsFirstLeast (is_movable p held g) (λ cell. cut p (flipped g.dies cell)) (length p.cells) leader.cell.0
 chosen_first p held g keys leader read chosen = record {
-  within = chosen.within;
+  in_range = chosen.within;
   passing = chosen.movable;
   least = λ cell within movable.
       let is = beaten p held g keys leader cell read chosen within movable in
@@ -234,12 +166,12 @@ chosen_first p held g keys leader read chosen = record {
 }
 
 none_movable : (p : Netlist) (held : Held) (g : Gained) (keys : List ℕ) → IsRead p g keys → IsBestOf p held g.top_order None → IsBestOf p held g.bottom_order None
-    → (cell : ℕ) → cell < length p.cells → is_movable p held g cell ≡ false
-none_movable p held g keys read no_top no_bottom cell within = by (is_movable p held g cell) refl
+    → NonePasses (is_movable p held g) (length p.cells)
+none_movable p held g keys read no_top no_bottom = record { fails = λ cell within. by cell within (is_movable p held g cell) refl }
   where
-    by : (b : Bool) → is_movable p held g cell ≡ b → b ≡ false
-    by false e = refl
-    by true movable = absurd (elim (two_dies (far_die g.dies cell)) [
+    by : (cell : ℕ) → cell < length p.cells → (b : Bool) → is_movable p held g cell ≡ b → b ≡ false
+    by cell within false e = refl
+    by cell within true movable = absurd (elim (two_dies (far_die g.dies cell)) [
       | inl far ↦ no_top cell within (moves_open p held g keys Top g.top_order cell read.of_problem.top (read.top cell within) within movable far (read.some cell within)).opens
       | inr far ↦ no_bottom cell within (moves_open p held g keys Bottom g.bottom_order cell read.of_problem.bottom (read.bottom cell within) within movable far (read.some cell within)).opens
     ])
@@ -251,7 +183,7 @@ number_of best = option_map (λ (leader : Leader). leader.cell.0) best
 pub best_is_first : (p : Netlist) (held : Held) (g : Gained) (keys : List ℕ) (top bottom best : Option Leader) → IsRead p g keys → IsBestOf p held g.top_order top → IsBestOf p held g.bottom_order bottom
     → IsBetter top bottom best → number_of best ≡ first_least (is_movable p held g) (λ cell. cut p (flipped g.dies cell)) (length p.cells)
 best_is_first p held g keys None None best read no_top no_bottom is =
-    ap number_of is ∙ sym (first_least_none (is_movable p held g) (λ cell. cut p (flipped g.dies cell)) (length p.cells) (none_movable p held g keys read no_top no_bottom))
+    ap number_of is ∙ sym (none_least (is_movable p held g) (λ cell. cut p (flipped g.dies cell)) (length p.cells) (none_movable p held g keys read no_top no_bottom))
 best_is_first p held g keys None (Some other) best read no_top best_bottom is =
     let chosen = chosen_of p held g keys Bottom g.bottom_order other read.of_problem.bottom read.bottom best_bottom (leads_none p held g.top_order other no_top) (leads_own p held g.bottom_order other best_bottom) in
     ap number_of is ∙ sym (first_least_some (is_movable p held g) (λ cell. cut p (flipped g.dies cell)) (length p.cells) other.cell.0 (chosen_first p held g keys other read chosen))

@@ -241,20 +241,20 @@ moved_kept members nets s t n x kept within is = record {
     same_sides : n.sides.items ≡ t.sides.items
     same_sides = ap (λ ss. ss.items) is.sides
 
--- every cell of a front is unlocked, one more or as it was
-pub unlocked_none : (locked : List Bool) → locked ≡ map (λ _. false) (take 0 locked) ++ drop 0 locked
-unlocked_none locked = refl
+-- every lock of a front is set, one more or as it was
+pub locks_none : (lock : Bool) (locked : List Bool) → locked ≡ map (λ _. lock) (take 0 locked) ++ drop 0 locked
+locks_none lock locked = refl
 
-pub unlocked_more : (old : List Bool) (i : ℕ) → i < length old
-    → set (map (λ (b : Bool). false) (take i old) ++ drop i old) i false ≡ map (λ (b : Bool). false) (take (i + 1) old) ++ drop (i + 1) old
-unlocked_more [] i within = absurd (omega arith)
-unlocked_more (b ∷ old) zero within = refl
-unlocked_more (b ∷ old) (suc i) within =
+pub locks_more : (lock : Bool) (old : List Bool) (i : ℕ) → i < length old
+    → set (map (λ (b : Bool). lock) (take i old) ++ drop i old) i lock ≡ map (λ (b : Bool). lock) (take (i + 1) old) ++ drop (i + 1) old
+locks_more lock [] i within = absurd (omega arith)
+locks_more lock (b ∷ old) zero within = refl
+locks_more lock (b ∷ old) (suc i) within =
     let up : suc i + 1 ≡ suc (i + 1) = omega arith in
-    ap (λ bs. false ∷ bs) (unlocked_more old i (omega arith)) ∙ sym (ap (λ j. map (λ (b : Bool). false) (take j (b ∷ old)) ++ drop j (b ∷ old)) up)
+    ap (λ bs. lock ∷ bs) (locks_more lock old i (omega arith)) ∙ sym (ap (λ j. map (λ (b : Bool). lock) (take j (b ∷ old)) ++ drop j (b ∷ old)) up)
 
-pub unlocked_all : (old : List Bool) (i : ℕ) → length old ≤ i → map (λ (b : Bool). false) (take i old) ++ drop i old ≡ map (λ _. false) old
-unlocked_all old i all = ap (λ bs. map (λ (b : Bool). false) bs ++ drop i old) (take_all i old all) ∙ ap (λ bs. map (λ _. false) old ++ bs) (drop_all i old all) ∙ append-nil (map (λ _. false) old)
+pub locks_all : (lock : Bool) (old : List Bool) (i : ℕ) → length old ≤ i → map (λ (b : Bool). lock) (take i old) ++ drop i old ≡ map (λ _. lock) old
+locks_all lock old i all = ap (λ bs. map (λ (b : Bool). lock) bs ++ drop i old) (take_all i old all) ∙ ap (λ bs. map (λ _. lock) old ++ bs) (drop_all i old all) ∙ append-nil (map (λ _. lock) old)
 
 pub lies_none : (s : State) → Lies s s
 lies_none s = record { dies = refl; sides = refl; keys = refl; follow = follow_none s.ranks }

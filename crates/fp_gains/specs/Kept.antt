@@ -14,7 +14,7 @@ use Rattle.fp_gains.specs.Lists.{list_at}
 use Rattle.fp_gains.specs.Links.{holds, AreMembers, AreLinks}
 use Rattle.fp_gains.specs.Sides.{no_sides, sides_of, share}
 use Rattle.fp_gains.specs.Gained.{Gained}
-use Rattle.fp_gains.specs.Ordered.{Ordered, is_in, IsOrderOf, IsNewOrder}
+use Rattle.fp_gains.specs.Ordered.{Ordered, is_in, key_of, IsOrderOf, IsNewOrder}
 
 -- the key of a cell whose move changes nothing
 abbrev pub even : ℕ
@@ -89,6 +89,17 @@ pub record IsStart (p : Netlist) (dies : List Die) (s : State) : Type 0 where
   pub keys : s.ranks.keys.items ≡ replicate (length dies) even
   pub top : IsNewOrder p Top s.ranks.top
   pub bottom : IsNewOrder p Bottom s.ranks.bottom
+
+-- cells lie on these dies, all locked and shown nowhere, with no cell of so many nets counted
+pub record IsLaid (dies : List Die) (nets : ℕ) (s : State) : Type 0 where
+  pub dies_are : s.dies.items ≡ dies
+  pub locked : s.locked.items ≡ replicate (length dies) true
+  pub sides : s.sides.items ≡ replicate nets no_sides
+  pub keys : s.ranks.keys.items ≡ replicate (length dies) even
+  pub all_top : length s.ranks.top.keys ≡ length dies
+  pub all_bottom : length s.ranks.bottom.keys ≡ length dies
+  pub top_none : (cell : ℕ) → cell < length dies → key_of s.ranks.top cell ≡ 0
+  pub bottom_none : (cell : ℕ) → cell < length dies → key_of s.ranks.bottom cell ≡ 0
 
 -- what gains keep
 pub record IsKept (members nets : List (List ℕ)) (s : State) : Type 0 where

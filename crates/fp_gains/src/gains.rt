@@ -13,7 +13,7 @@ use crate::links;
 use crate::lists::Lists;
 use crate::order::Order;
 use crate::ranks::{EVEN, Ranks};
-use crate::sides::Sides;
+use crate::sides::NO_SIDES;
 use crate::state::State;
 use crate::tournament::{Leader, winner};
 use fp_base::{CellId, Die, NoMemory};
@@ -53,8 +53,7 @@ impl Gains {
         let members = links::cells_by_net(alloc, problem)?;
         let nets = links::nets_by_cell(alloc, problem)?;
         let mut state = start(alloc, problem, dies)?;
-        state.count(&members);
-        state.unlock_all();
+        state.begin(&members);
         Ok(Gains {
             members,
             nets,
@@ -104,7 +103,18 @@ impl Gains {
         ensures locked { self.new.locked ≡ map (λ _. false) self.old.locked }
         ensures of_problem { (p : Netlist) → IsGainsOf p self.old → IsGainsOf p self.new }
     {
-        self.state.unlock_all();
+        self.state.set_all_locks(false);
+    }
+
+    /// Begins again where each cell stands on its die of another list. No cell is locked. What is known of the problem stays, so this is
+    /// quicker than to make the gains anew.
+    pub fn restart(&mut self, dies: &[Die])
+        requires { length dies.now ≡ length self.old.dies }
+        ensures dies { self.new.dies ≡ dies.now }
+        ensures locked { self.new.locked ≡ map (λ _. false) self.old.locked }
+        ensures of_problem { (p : Netlist) → IsGainsOf p self.old → IsGainsOf p self.new }
+    {
+        self.state.restart(&self.members, dies);
     }
 
     /// Of the cells that are not locked, fit their other die and have room there beside the area that is held, one of greatest gain, the
@@ -154,7 +164,7 @@ fn start(alloc: Global, problem: &Problem, dies: &[Die]) -> Result<State, NoMemo
     Ok(State {
         dies: Vec::from_slice(alloc, dies)?,
         locked: vec![in alloc; true; cells]?,
-        sides: vec![in alloc; Sides { top: 0, bottom: 0 }; nets]?,
+        sides: vec![in alloc; NO_SIDES; nets]?,
         ranks,
     })
 }

@@ -81,7 +81,7 @@ impl Order {
         if caps.room(problem, leader.cell, self.die) {
             return Some(leader);
         }
-        let count = count_with_room(problem, caps, self.die, self.tournament.leaves());
+        let count = count_with_room(problem, caps, self.die, &self.tournament);
         self.tournament.first(count)
     }
 }
@@ -139,16 +139,21 @@ fn slots_of(alloc: Global, count: u32, cells: &[CellId]) -> Result<Vec<Option<u3
 }
 
 // How many cells of the order have room on the die: they stand in front.
-fn count_with_room(problem: &Problem, caps: &Caps, die: Die, leaves: &[Leader]) -> usize
-    requires within { All (λ leaf. leaf.cell.0 < length problem.now.cells) leaves.now }
-    requires rising { IsNonDecreasingBy (λ leaf. area problem.now leaf.cell.0 die) leaves.now }
-    ensures { IsRoomFor problem.now caps.now die leaves.now result }
+fn count_with_room(
+    problem: &Problem,
+    caps: &Caps,
+    die: Die,
+    tournament: &Tournament,
+) -> usize
+    requires within { All (λ leaf. leaf.cell.0 < length problem.now.cells) tournament.now }
+    requires rising { IsNonDecreasingBy (λ leaf. area problem.now leaf.cell.0 die) tournament.now }
+    ensures { IsRoomFor problem.now caps.now die tournament.now result }
 {
     let mut low = 0;
-    let mut high = leaves.len();
+    let mut high = tournament.len();
     while low < high {
         let middle = low + (high - low) / 2;
-        if caps.room(problem, leaves[middle].cell, die) {
+        if caps.room(problem, tournament.cell(middle), die) {
             low = middle + 1;
         } else {
             high = middle;

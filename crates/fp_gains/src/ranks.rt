@@ -1,8 +1,9 @@
 //! The keys of the cells, in the orders of both dies.
 
-ghost use Rattle.std.specs.Prelude.{◌≡◌, ℕ, ◌<◌, ◌==◌, All, length, set, if◌then◌else◌};
+ghost use Rattle.std.specs.Prelude.{◌≡◌, ℕ, ◌<◌, ◌==◌, All, false, length, set, if◌then◌else◌};
 ghost use Rattle.std.specs.List.{IsDistinct};
 ghost use Rattle.fp_base.specs.declared.ids.Die.TheVariants.{Top, Bottom};
+ghost use Rattle.fp_place.specs.Settled.{is_moved};
 ghost use Rattle.fp_gains.specs.Kept.{free_key, is_free, AreShownBut, AreShown, Follow};
 ghost use Rattle.fp_gains.specs.Changes.{AreReweighed, AreInRange};
 
@@ -38,6 +39,38 @@ impl Ranks {
             .set(cell, free_key(dies, locked, key, Die::Bottom, cell));
     }
 
+    // Sets the key of a cell, and shows it in the order of the die that it would move to.
+    fn set_far(&mut self, dies: &[Die], locked: &[bool], cell: CellId, key: u32)
+        requires cell { cell.0 < length dies.now }
+        requires free { is_moved locked.now cell.0 ≡ false }
+        requires shown { AreShown dies.now locked.now self.old }
+        ensures keys { self.new.keys.items ≡ set self.old.keys.items cell.0 key }
+        ensures shown { AreShown dies.now locked.now self.new }
+        ensures follow { Follow self.old self.new }
+    {
+        self.keys[cell.0 as usize] = key;
+        match dies[cell.0 as usize] {
+            Die::Top => self.bottom.set(cell, key),
+            Die::Bottom => self.top.set(cell, key),
+        }
+    }
+
+    // Sets the key of a cell that stays where it is, and shows it where that is needed.
+    fn change(&mut self, dies: &[Die], locked: &[bool], cell: CellId, key: u32)
+        requires cell { cell.0 < length dies.now }
+        requires shown { AreShown dies.now locked.now self.old }
+        ensures keys { self.new.keys.items ≡ set self.old.keys.items cell.0 key }
+        ensures shown { AreShown dies.now locked.now self.new }
+        ensures follow { Follow self.old self.new }
+    {
+        let place = cell.0 as usize;
+        if locked[place] || self.keys[place] == key {
+            self.keys[place] = key;
+        } else {
+            self.set_far(dies, locked, cell, key);
+        }
+    }
+
     /// Gives each of these cells the key that its net's numbers of cells after a change make of the key by those before.
     pub fn reweigh(
         &mut self,
@@ -58,7 +91,7 @@ impl Ranks {
         for cell in cells {
             let die = dies[*cell as usize];
             let key = self.keys[*cell as usize] + after.share(die) - before.share(die);
-            self.set(dies, locked, CellId(*cell), key);
+            self.change(dies, locked, CellId(*cell), key);
         }
     }
 }

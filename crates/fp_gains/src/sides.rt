@@ -2,7 +2,6 @@
 
 ghost use Rattle.std.specs.Prelude.{◌≡◌, ◌<◌, ◌≤◌, ◌^◌, ◌+◌, All, IsTrue, length};
 ghost use Rattle.fp_base.specs.declared.ids.Die.TheVariants.{Top, Bottom};
-ghost use Rattle.fp_place.specs.Places.{other_die};
 ghost use Rattle.fp_gains.specs.Sides.{count_on, on_die, sides_of, moved, share_by, share};
 
 use fp_base::Die;
@@ -13,6 +12,9 @@ pub struct Sides {
     pub top: u32,
     pub bottom: u32,
 }
+
+/// No cell on either die.
+pub const NO_SIDES: Sides = Sides { top: 0, bottom: 0 };
 
 impl Sides {
     /// Those of a net's cells.
@@ -63,16 +65,6 @@ impl Sides {
     {
         self.share(Die::Top) == other.share(Die::Top)
             && self.share(Die::Bottom) == other.share(Die::Bottom)
-    }
-}
-
-/// The die that faces another.
-pub fn other(die: Die) -> Die
-    ensures { result ≡ other_die die }
-{
-    match die {
-        Die::Top => Die::Bottom,
-        Die::Bottom => Die::Top,
     }
 }
 

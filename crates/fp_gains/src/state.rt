@@ -1,16 +1,17 @@
 //! What changes in gains: where cells stand, which are locked, the nets' numbers of cells on each die, and the keys.
 
-ghost use Rattle.std.specs.Prelude.{◌≡◌, ℕ, ◌+◌, ◌<◌, ◌≤◌, ◌^◌, ◌==◌, All, false, length, set, map};
+ghost use Rattle.std.specs.Prelude.{◌≡◌, ℕ, ◌+◌, ◌<◌, ◌≤◌, ◌^◌, ◌==◌, All, true, false, length, set, map, replicate};
 ghost use Rattle.std.specs.List.{IsDistinct};
 ghost use Rattle.fp_place.specs.Settled.{flipped};
 ghost use Rattle.fp_gains.specs.Links.{AreMembers};
-ghost use Rattle.fp_gains.specs.Kept.{IsRanked, AreCounted, IsKept, AreShown, Follow};
+ghost use Rattle.fp_gains.specs.Kept.{IsRanked, AreCounted, IsKept, IsLaid, AreShown, Follow};
 ghost use Rattle.fp_gains.specs.Changes.{CanTurn, AreTurned, Stands, Lies};
 
 use crate::lists::Lists;
 use crate::ranks::{EVEN, Ranks};
-use crate::sides::{Sides, other};
+use crate::sides::{NO_SIDES, Sides};
 use fp_base::{CellId, Die};
+use fp_place::other;
 
 /// Where the cells stand, which are locked, how many of each net's cells stand on each die, and the cells' keys.
 #[derive(Drop)]
@@ -88,21 +89,67 @@ impl State {
         self.ranks.set(&self.dies, &self.locked, cell, key);
     }
 
-    /// Unlocks every cell.
-    pub fn unlock_all(&mut self)
+    /// Locks or unlocks every cell.
+    pub fn set_all_locks(&mut self, lock: bool)
         requires few { length self.old.dies.items ≤ 2 ^ 18 }
         requires shown { AreShown self.old.dies.items self.old.locked.items self.old.ranks }
         ensures shown { AreShown self.new.dies.items self.new.locked.items self.new.ranks }
-        ensures locked { self.new.locked.items ≡ map (λ _. false) self.old.locked.items }
+        ensures locked { self.new.locked.items ≡ map (λ _. lock) self.old.locked.items }
         ensures lies { Lies self.old self.new }
     {
         for cell in 0..self.dies.len() as u32 {
-            self.set_lock(CellId(cell), false);
+            self.set_lock(CellId(cell), lock);
         }
     }
 
-    /// Counts the cells of each net on each die.
-    pub fn count(&mut self, members: &Lists)
+    // Puts the cells, which are all locked, on these dies, with no cell of a net counted.
+    fn lay(&mut self, dies: &[Die])
+        requires many { length dies.now ≡ length self.old.dies.items }
+        requires shown { AreShown self.old.dies.items self.old.locked.items self.old.ranks }
+        requires locked { self.old.locked.items ≡ replicate (length self.old.dies.items) true }
+        ensures laid { IsLaid dies.now (length self.old.sides.items) self.new }
+        ensures locked { self.new.locked ≡ self.old.locked }
+        ensures follow { Follow self.old.ranks self.new.ranks }
+    {
+        self.dies.copy_from_slice(dies);
+        self.sides.fill(NO_SIDES);
+        self.ranks.keys.fill(EVEN);
+    }
+
+    /// Begins again where each cell stands on its die of another list, with no cell locked.
+    pub fn restart(&mut self, members: &Lists, dies: &[Die])
+        requires many { length dies.now ≡ length self.old.dies.items }
+        requires few { length self.old.dies.items ≤ 2 ^ 18 }
+        requires members { AreMembers members.now (length self.old.dies.items) }
+        requires ranked { IsRanked members.now self.old }
+        ensures dies { self.new.dies.items ≡ dies.now }
+        ensures locked { self.new.locked.items ≡ map (λ _. false) self.old.locked.items }
+        ensures ranked { IsRanked members.now self.new }
+        ensures counted { AreCounted members.now self.new.dies.items self.new.sides.items }
+        ensures follow { Follow self.old.ranks self.new.ranks }
+    {
+        self.set_all_locks(true);
+        self.lay(dies);
+        self.begin(members);
+    }
+
+    /// Counts the cells of each net, and unlocks every cell.
+    pub fn begin(&mut self, members: &Lists)
+        requires few { length self.old.dies.items ≤ 2 ^ 18 }
+        requires members { AreMembers members.now (length self.old.dies.items) }
+        requires ranked { IsRanked members.now self.old }
+        ensures dies { self.new.dies.items ≡ self.old.dies.items }
+        ensures locked { self.new.locked.items ≡ map (λ _. false) self.old.locked.items }
+        ensures ranked { IsRanked members.now self.new }
+        ensures counted { AreCounted members.now self.new.dies.items self.new.sides.items }
+        ensures follow { Follow self.old.ranks self.new.ranks }
+    {
+        self.count(members);
+        self.set_all_locks(false);
+    }
+
+    // Counts the cells of each net on each die.
+    fn count(&mut self, members: &Lists)
         requires members { AreMembers members.now (length self.old.dies.items) }
         requires ranked { IsRanked members.now self.old }
         ensures counted { AreCounted members.now self.new.dies.items self.new.sides.items }

@@ -1,7 +1,7 @@
 //! A tournament over slots, each with a cell and a key: a greater key wins, and a lesser cell among equal keys.
 
 ghost use Rattle.std.specs.Prelude.{◌≡◌, ◌+◌, ◌*◌, ◌/◌, ◌<◌, ◌≤◌, ◌^◌, ◌++◌, IfOk, length, map, drop, replicate};
-ghost use Rattle.fp_gains.specs.Contests.{nobody, unkeyed, rekeyed, IsWinner, IsTree, IsTreeBut, IsBest, IsBestSlot};
+ghost use Rattle.fp_gains.specs.Contests.{nobody, leader_at, unkeyed, rekeyed, IsWinner, IsTree, IsTreeBut, IsBest, IsBestSlot};
 
 use fp_base::{CellId, NoMemory};
 use std::alloc::Global;
@@ -55,11 +55,19 @@ impl Tournament {
         })
     }
 
-    /// The slots, in order.
-    pub fn leaves(&self) -> &[Leader]
-        ensures { result.now ≡ self.now }
+    /// The number of slots.
+    pub fn len(&self) -> usize
+        ensures { result ≡ length self.now }
     {
-        &self.nodes[self.slots..]
+        self.slots
+    }
+
+    /// The cell of a slot.
+    pub fn cell(&self, slot: usize) -> CellId
+        requires { slot < length self.now }
+        ensures { result ≡ (leader_at self.now slot).cell }
+    {
+        self.nodes[self.slots + slot].cell
     }
 
     /// Gives a slot another key.

@@ -1,5 +1,4 @@
 pub mod AreaLemmas
-pub mod BackLemmas
 pub mod NextLemmas
 pub mod PassLemmas
 pub mod RunLemmas

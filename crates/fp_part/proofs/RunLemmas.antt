@@ -31,6 +31,7 @@ unfolding pass
 begin p walk is = record {
   walked = record {
     ready = is.ready;
+    start_is = is.start_is;
     dies_are = sym (ap (after_moves dies) is.unmoved);
     within = All-same (λ (cell : CellId). cell.0 < length p.cells) walk.moved.items [] is.unmoved (All-nil (λ (cell : CellId). cell.0 < length p.cells));
     kept = subst (λ n. n ≤ length walk.moved.items) (sym none) (omega arith);
@@ -101,6 +102,7 @@ unfolding moves first_fewest
 move_on p start left cell old new way next is = record {
   walked = record {
     ready = is.moved.ready;
+    start_is = ap (λ v. v.items) is.start_is ∙ way.walked.start_is;
     dies_are = now_after p start cell old new way.walked is;
     within = All-same (λ (c : CellId). c.0 < length p.cells) new.moved.items (old.moved.items ++ cell ∷ []) is.moves_are
         (All-push (λ (c : CellId). c.0 < length p.cells) old.moved.items cell way.walked.within (next_is p old.gains.dies old.gains.locked cell.0 next).in_range);
@@ -137,23 +139,11 @@ pub all_moved : (p : Netlist) (start : List Die) (walk : Walk) → IsOnWay p sta
 unfolding moves first_fewest
 all_moved p start walk way = record { walked = way.walked; best_is = way.rest }
 
--- the moves after the fewest cut nets lead from there to the dies of now
-later_moves : (p : Netlist) (start : List Die) (walk : Walk) (moved : List CellId) → IsRun p start walk → moved ≡ walk.moved.items
-    → walk.gains.dies ≡ after_moves (best p start) (take (length moved - walk.fewest.moves) (drop walk.fewest.moves moved))
-later_moves p start walk moved is same =
-    let keep = walk.fewest.moves in
-    is.walked.dies_are ∙ ap (after_moves start) (sym same) ∙ ap (after_moves start) (sym (take-append-drop keep moved))
-    ∙ after_append start (take keep moved) (drop keep moved)
-    ∙ ap (λ cells. after_moves (after_moves start (take keep cells)) (drop keep moved)) same
-    ∙ ap (λ dies. after_moves dies (drop keep moved)) is.best_is
-    ∙ ap (after_moves (best p start)) (sym (take_rest moved keep))
-
--- where they are taken back and all cells are unlocked, what the pass keeps is left
-pub back_at_best : (p : Netlist) (start : List Die) (run : Walk) (moved : List CellId) (back dies : List Die) → KeepRules p start → IsRun p start run → moved ≡ run.moved.items
-    → ((first : List Die) → length first ≡ length run.gains.dies → run.gains.dies ≡ after_moves first (take (length moved - run.fewest.moves) (drop run.fewest.moves moved)) → back ≡ first)
-    → dies ≡ back → dies ≡ best p start
-back_at_best p start run moved back dies rules is same goes_back unlocked =
-    unlocked ∙ goes_back (best p start) ((best_keeps p start rules).cells ∙ sym is.walked.ready.rules.cells) (later_moves p start run moved is same)
+-- the moves up to the fewest cut nets lead to the dies that the pass keeps
+pub at_best : (p : Netlist) (start : List Die) (run : Walk) (dies : List Die) (kept : List CellId) → IsRun p start run → kept ≡ take run.fewest.moves run.moved.items
+    → dies ≡ after_moves run.start.items kept → dies ≡ best p start
+at_best p start run dies kept is kept_is dies_are =
+    dies_are ∙ ap (after_moves run.start.items) kept_is ∙ ap (λ first. after_moves first (take run.fewest.moves run.moved.items)) is.walked.start_is ∙ is.best_is
 
 -- no cell is locked any more
 pub all_unlocked : (locked : List Bool) (n : ℕ) → length locked ≡ n → map (λ (_ : Bool). false) locked ≡ replicate n false

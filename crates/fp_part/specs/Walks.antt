@@ -36,6 +36,7 @@ pub record IsReady (p : Netlist) (walk : Walk) : Type 0 where
 pub record IsBegun (p : Netlist) (walk : Walk) : Type 0 where
   pub ready : IsReady p walk
   pub unlocked : walk.gains.locked ≡ none_moved p
+  pub start_is : walk.start.items ≡ walk.gains.dies
   pub unmoved : walk.moved.items ≡ []
   pub fewest_is : walk.fewest ≡ record { cut = walk.cut; moves = 0 }
 
@@ -48,6 +49,7 @@ pub record IsMoved (p : Netlist) (cell : CellId) (old new : Walk) : Type 0 where
 -- and the move is remembered
 pub record Advances (p : Netlist) (cell : CellId) (old new : Walk) : Type 0 where
   pub moved : IsMoved p cell old new
+  pub start_is : new.start ≡ old.start
   pub moves_are : new.moved.items ≡ old.moved.items ++ cell ∷ []
   pub fewest_is : new.fewest ≡ fewer old.fewest new.cut (length new.moved.items)
 
@@ -58,6 +60,7 @@ fewest_dies start walk = after_moves start (take walk.fewest.moves walk.moved.it
 -- a walk was made by the moves from the pass's first dies; the first dies with the fewest cut nets are known
 pub record IsWalked (p : Netlist) (start : List Die) (walk : Walk) : Type 0 where
   pub ready : IsReady p walk
+  pub start_is : walk.start.items ≡ start
   pub dies_are : walk.gains.dies ≡ after_moves start walk.moved.items
   pub within : All (λ (cell : CellId). cell.0 < length p.cells) walk.moved.items
   pub kept : walk.fewest.moves ≤ length walk.moved.items

@@ -1,7 +1,6 @@
 //! The area that each die's cells take.
 
 ghost use Rattle.std.specs.Prelude.{◌≡◌};
-ghost use Rattle.fp_place.specs.Places.{other_die};
 ghost use Rattle.fp_place.specs.Settled.{KeepRules};
 ghost use Rattle.fp_part.specs.Walks.{held_by};
 
@@ -19,14 +18,4 @@ pub fn caps_of(problem: &Problem, dies: &[Die]) -> Caps
         caps.add(problem, CellId(cell), dies[cell as usize]);
     }
     caps
-}
-
-/// The die that faces a die.
-pub fn other(die: Die) -> Die
-    ensures { result ≡ other_die die }
-{
-    match die {
-        Die::Top => Die::Bottom,
-        Die::Bottom => Die::Top,
-    }
 }

@@ -8,11 +8,11 @@ ghost use Rattle.fp_place.specs.Settled.{best, next_move, KeepRules};
 ghost use Rattle.fp_gains.specs.Gained.{IsGainsOf};
 ghost use Rattle.fp_part.specs.Walks.{after_moves, fewer, IsReady, IsBegun, IsMoved, Advances, IsRun};
 
-use crate::areas::{caps_of, other};
+use crate::areas::caps_of;
 use fp_base::{CellId, Die, NoMemory};
 use fp_gains::Gains;
 use fp_netlist::Problem;
-use fp_place::{Caps, cut};
+use fp_place::{Caps, cut, other};
 use std::alloc::Global;
 
 /// The fewest cut nets of a pass so far, and after how many moves they were first reached.
@@ -22,11 +22,12 @@ pub struct Fewest {
     pub moves: usize,
 }
 
-/// The dies in a pass, with the area that their cells take and the number of nets that they cut; the cells that the pass moved, in the
-/// order of the moves.
+/// The dies in a pass, with the area that their cells take and the number of nets that they cut; the dies that the pass began with, and
+/// the cells that it moved, in the order of the moves.
 #[derive(Drop)]
 pub struct Walk {
     pub gains: Gains,
+    pub start: Vec<Die>,
     pub caps: Caps,
     pub cut: u32,
     pub moved: Vec<CellId>,
@@ -44,6 +45,7 @@ impl Walk {
         let cut = cut(problem, from);
         Ok(Walk {
             gains,
+            start: Vec::from_slice(alloc, from)?,
             caps: caps_of(problem, from),
             cut,
             moved: Vec::new(alloc),
@@ -51,13 +53,14 @@ impl Walk {
         })
     }
 
-    // Moves the next cell to its other die, and locks it.
+    // Moves the next cell to its other die. It is locked first: then no order has to show its new key.
     fn move_cell(&mut self, problem: &Problem, cell: CellId)
         requires sound { IsSound problem.now }
         requires cell { cell.0 < length problem.now.cells }
         requires ready { IsReady problem.now self.old }
         requires next { next_move problem.now self.old.gains.dies self.old.gains.locked ≡ Some cell.0 }
         ensures moved { IsMoved problem.now cell self.old self.new }
+        ensures start { self.new.start ≡ self.old.start }
         ensures same { self.new.moved ≡ self.old.moved }
         ensures fewest { self.new.fewest ≡ self.old.fewest }
     {
@@ -65,8 +68,8 @@ impl Walk {
         let die = self.gains.dies()[cell.0 as usize];
         self.caps.add(problem, cell, other(die));
         self.caps.take(problem, cell, die);
-        self.gains.flip(problem, cell);
         self.gains.lock(cell);
+        self.gains.flip(problem, cell);
         self.cut = less(self.cut, gain);
     }
 
@@ -105,16 +108,16 @@ impl Walk {
         Ok(())
     }
 
-    /// A whole pass, back to the first of its dies with the fewest cut nets, where the next pass begins.
+    /// A whole pass, and then the first of its dies with the fewest cut nets, where the next pass begins.
     pub fn pass(&mut self, problem: &Problem) -> Result<(), NoMemory>
         requires { IsBegun problem.now self.old }
         ensures begun { IfOk result (λ _. IsBegun problem.now self.new) }
         ensures dies { IfOk result (λ _. self.new.gains.dies ≡ best problem.now self.old.gains.dies) }
     {
         self.run(problem)?;
-        go_back(problem, &mut self.gains, &self.moved[self.fewest.moves..]);
-        self.gains.unlock_all();
-        self.caps = caps_of(problem, self.gains.dies());
+        move_all(&mut self.start, &self.moved[..self.fewest.moves]);
+        self.gains.restart(&self.start);
+        self.caps = caps_of(problem, &self.start);
         self.cut = self.fewest.cut;
         self.moved.clear();
         self.fewest.moves = 0;
@@ -142,15 +145,13 @@ fn fewer(fewest: Fewest, cut: u32, moves: usize) -> Fewest
     }
 }
 
-// Takes back moves, the last one first.
-fn go_back(problem: &Problem, gains: &mut Gains, moved: &[CellId])
-    requires { All (λ cell. cell.0 < length gains.old.dies) moved.now }
-    ensures of_problem { (p : Netlist) → IsGainsOf p gains.old → IsGainsOf p gains.new }
-    ensures locked { gains.new.locked ≡ gains.old.locked }
-    ensures dies { (start : List Die) → length start ≡ length gains.old.dies
-        → gains.old.dies ≡ after_moves start moved.now → gains.new.dies ≡ start }
+// Moves each of these cells to its other die.
+fn move_all(dies: &mut Vec<Die>, moved: &[CellId])
+    requires { All (λ cell. cell.0 < length dies.old.items) moved.now }
+    ensures { dies.new.items ≡ after_moves dies.old.items moved.now }
 {
-    for back in 0..moved.len() {
-        gains.flip(problem, moved[moved.len() - 1 - back]);
+    for cell in moved {
+        let place = cell.0 as usize;
+        dies[place] = other(dies[place]);
     }
 }

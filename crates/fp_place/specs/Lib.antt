@@ -6,6 +6,7 @@ pub mod Closeness
 pub mod Cut
 pub mod Drawing
 pub mod FirstFaults
+pub mod FirstLeast
 pub mod Held
 pub mod Joining
 pub mod KeptCaps

@@ -2,7 +2,6 @@
 
 ghost use Rattle.std.specs.Prelude.{◌≡◌, ◌<◌, ◌++◌, ◌∷◌, [], IfOk, Some, length};
 ghost use Rattle.fp_netlist.specs.Netlist.{IsSound};
-ghost use Rattle.fp_place.specs.Places.{other_die};
 ghost use Rattle.fp_score.specs.FirstFit.{seat_on, first_room};
 ghost use Rattle.fp_seed.specs.Seats.{IsSeating, IsTaken, Places, Fills};
 
@@ -10,7 +9,7 @@ use crate::seat::Seat;
 use crate::shelves::Shelves;
 use fp_base::{Bottom, CellId, Die, NoMemory, Top};
 use fp_netlist::Problem;
-use fp_place::Caps;
+use fp_place::{Caps, other};
 use std::alloc::Global;
 
 /// The seats of the first cells, with the area that each die's cells take and the segments of both dies.
@@ -126,14 +125,5 @@ impl Seating {
             }
         }
         Ok(None)
-    }
-}
-
-fn other(die: Die) -> Die
-    ensures { result ≡ other_die die }
-{
-    match die {
-        Die::Top => Die::Bottom,
-        Die::Bottom => Die::Top,
     }
 }

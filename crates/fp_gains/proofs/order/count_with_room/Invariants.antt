@@ -6,4 +6,4 @@ abbrev pub decreases-loop-low : goal.decreases-loop-low
 decreases-loop-low l = l.high - l.low
 
 abbrev pub invariant-loop-low : goal.invariant-loop-low
-invariant-loop-low l = IsNarrowed l.problem l.caps l.die l.leaves l.low l.high
+invariant-loop-low l = IsNarrowed l.problem l.caps l.die l.tournament l.low l.high

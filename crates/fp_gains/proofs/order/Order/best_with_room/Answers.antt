@@ -27,17 +27,15 @@ returns-then-room c =
 
 pub count_with_room-count-requires-clause-within : goal.count_with_room-count-requires-clause-within
 count_with_room-count-requires-clause-within c =
-    subst (All (λ (leaf : Leader). leaf.cell.0 < length c.args.problem.now.cells)) (sym c.leaves.ensures)
-    (leaves_within c.args.problem.now c.self.inside.die c.self.inside.slots.items c.self.inside.tournament (holds (goal.at.count_with_room-count-requires-clause-within c).After-leader))
+    leaves_within c.args.problem.now c.self.inside.die c.self.inside.slots.items c.self.inside.tournament (holds (goal.at.count_with_room-count-requires-clause-within c).After-leader)
 
 pub count_with_room-count-requires-clause-rising : goal.count_with_room-count-requires-clause-rising
 count_with_room-count-requires-clause-rising c =
-    subst (AreRising c.args.problem.now c.self.inside.die) (sym c.leaves.ensures)
-    (leaves_rise c.args.problem.now c.self.inside.die c.self.inside.slots.items c.self.inside.tournament (holds (goal.at.count_with_room-count-requires-clause-rising c).After-leader))
+    leaves_rise c.args.problem.now c.self.inside.die c.self.inside.slots.items c.self.inside.tournament (holds (goal.at.count_with_room-count-requires-clause-rising c).After-leader)
 
 pub returns : goal.returns
 returns c =
     subst (λ o. IsBestWithRoom c.args.problem.now c.args.caps.now o c.first.result) c.self.view_is
     (front_best c.args.problem.now c.args.caps.now c.self.inside.die c.self.inside.slots.items c.self.inside.tournament c.count_with_room-count.result c.first.result (holds (goal.at.returns c).After-leader)
-    (subst (λ leaves. IsRoomFor c.args.problem.now c.args.caps.now c.self.inside.die leaves c.count_with_room-count.result) c.leaves.ensures c.count_with_room-count.ensures)
+    c.count_with_room-count.ensures
     c.first.ensures)

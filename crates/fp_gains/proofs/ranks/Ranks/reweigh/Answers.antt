@@ -19,9 +19,9 @@ loop-cell-preserved c =
     let key = key_read c.args.dies.now c.args.cells.now c.args.before c.args.after c.args.self.now.keys.items c.loop-cell.self.keys.items c.loop-cell.cell-index c.index.result.now
     c.loop-cell.invariant.keys c.requires.once c.requires.within c.requires.range c.requires.shown.all_cells c.loop-cell-test.true c.index.ensures in
     record {
-      keys = reweighed_more c.args.dies.now c.args.cells.now c.args.before c.args.after c.args.self.now.keys.items c.loop-cell.self.keys.items c.set.new.self.keys.items c.loop-cell.cell-index
+      keys = reweighed_more c.args.dies.now c.args.cells.now c.args.before c.args.after c.args.self.now.keys.items c.loop-cell.self.keys.items c.change.new.self.keys.items c.loop-cell.cell-index
           (c.index.result.now + c.share.result - c.share-in-loop-cell.result) c.loop-cell.invariant.keys c.requires.once c.loop-cell-test.true (c.requires.within c.loop-cell.cell-index 0 c.loop-cell-test.true)
-          c.loop-cell.invariant.shown.all_cells (omega (arith, key.is, key.low, c.share.ensures.share, c.share-in-loop-cell.ensures.share, c.share-in-loop-cell.ensures.small)) c.set.ensures.keys;
-      shown = c.set.ensures.shown;
-      follow = follow_more c.args.self.now c.loop-cell.self c.set.new.self c.loop-cell.invariant.follow c.set.ensures.follow;
+          c.loop-cell.invariant.shown.all_cells (omega (arith, key.is, key.low, c.share.ensures.share, c.share-in-loop-cell.ensures.share, c.share-in-loop-cell.ensures.small)) c.change.ensures.keys;
+      shown = c.change.ensures.shown;
+      follow = follow_more c.args.self.now c.loop-cell.self c.change.new.self c.loop-cell.invariant.follow c.change.ensures.follow;
     }

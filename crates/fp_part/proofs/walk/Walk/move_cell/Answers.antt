@@ -3,7 +3,7 @@ use Rattle.std.proofs.lemmas.Int.{to_z-of_z}
 use Rattle.std.proofs.lemmas.List.{length-set}
 use Rattle.fp_place.specs.Cut.{cut}
 use Rattle.fp_place.specs.Places.{die_at, other_die}
-use Rattle.fp_place.specs.Settled.{KeepRules}
+use Rattle.fp_place.specs.Settled.{flipped, KeepRules}
 use Rattle.fp_part.specs.MoveLaws.{move_keeps}
 use Rattle.fp_part.specs.SettledLaws.{next_is}
 use Rattle.fp_part.specs.Walks.{held_by}
@@ -44,11 +44,11 @@ pub returns-clause-moved : goal.returns-clause-moved
 returns-clause-moved c =
     let p = c.args.problem.now in let dies = c.args.self.now.gains.dies in let cell = c.args.cell.0 in let gain = c.gain-gain.result in
     let small : FitsSigned w64 gain = search rules in
-    let dies_are = c.lock.ensures.dies ∙ c.flip.ensures.dies in
-    let locked_are = c.lock.ensures.locked ∙ ap (λ locked. set locked cell true) c.flip.ensures.locked in
+    let dies_are = c.flip.ensures.dies ∙ ap (λ dies. flipped dies cell) c.lock.ensures.dies in
+    let locked_are = c.flip.ensures.locked ∙ c.lock.ensures.locked in
     record {
       ready = record {
-        gains_are = c.lock.ensures.of_problem p (c.flip.ensures.of_problem p c.requires.ready.gains_are);
+        gains_are = c.flip.ensures.of_problem p (c.lock.ensures.of_problem p c.requires.ready.gains_are);
         locks = ap length locked_are ∙ length-set c.args.self.now.gains.locked cell true ∙ c.requires.ready.locks;
         rules = subst (KeepRules p) (sym dies_are) (move_keeps p dies cell c.requires.ready.rules c.requires.cell (next_is p dies c.args.self.now.gains.locked cell c.requires.next).may);
         held_is = held_after p dies cell (die_at c.dies.result.now cell) c.other.result c.args.self.now.caps c.add.new.self c.take.new.self
