@@ -1,221 +1,392 @@
--- A tournament in one list: writing a node, playing matches again, and the best of a front of the slots.
-use Rattle.std.proofs.Common.{◌≡◌, ◌≢◌, ℕ, zero, suc, ◌+◌, ◌-◌, ◌*◌, ◌/◌, ◌<◌, ◌≤◌, ◌⊎◌, inl, inr, List, length, set, drop, length-set, length-drop, sym, ap, subst, ◌∙◌, arith}
+-- A tournament of ranks in one list: writing a node, playing matches again, and the best of a front of the slots.
+use Rattle.std.proofs.Common.{◌≡◌, ◌≢◌, ℕ, zero, suc, ◌+◌, ◌-◌, ◌*◌, ◌/◌, ◌%◌, ◌^◌, ◌<◌, ◌≤◌, min, max, ◌⊎◌, inl, inr, List, [], ◌∷◌, ◌++◌, length, map, set, drop, replicate, length-set, length-append, length-drop, refl, sym, ap, subst, ◌∙◌, arith}
 use Rattle.std.proofs.lemmas.Bool.{cases_lt, cases_eq}
-use Rattle.std.proofs.lemmas.List.{get_or-set_same, get_or-set_other, get_or-drop, drop-set-add}
+use Rattle.std.proofs.lemmas.List.{get_or-set_same, get_or-set_other, set-set, set-get_or, get_or-drop, get_or_past, get_or-map, length-map, length-replicate, drop-set-add, map-set}
+use Rattle.std.proofs.Math.Seq.{drop-append_seam}
+use Rattle.std.specs.List.{All}
+use Rattle.fp_base.specs.declared.ids.CellId.{CellId}
 use Rattle.fp_gains.specs.declared.tournament.Leader.{Leader}
-use Rattle.fp_gains.specs.Contests.{nobody, leader_at, keyed, rekeyed, IsBehind, IsWinner, IsWon, IsTreeBut, IsTree, IsBest}
+use Rattle.fp_gains.specs.Contests.{nobody, leader_at, unkeyed, keyed, rekeyed, leader_of, unkeyed_rank, rank_at, IsBehind, IsMost, IsGreatest, IsWon, IsLaidOut, IsTree, IsElsewhere, IsWaiting, IsTop, IsOuter, IsBest}
 
--- behind is an order
-pub behind_self : (one : Leader) → IsBehind one one
-behind_self one = record { key = omega arith; cell = λ _. omega arith }
+-- ranks and leaders
+behind_with : (low high : ℕ) → low ≤ high → IsBehind (leader_of low) (leader_of high)
+behind_with low high less = record { key = omega (arith, less); cell = λ same. omega (arith, less, same) }
 
-pub behind_trans : (one middle other : Leader) → IsBehind one middle → IsBehind middle other → IsBehind one other
-behind_trans one middle other first second = record {
-  key = omega (arith, first.key, second.key);
-  cell = λ same.
-      let low : one.key ≡ middle.key = omega (arith, first.key, second.key, same) in
-      let high : middle.key ≡ other.key = omega (arith, low, same) in
-      omega (arith, first.cell low, second.cell high);
-}
+abbrev parts : ℕ → ℕ → Leader
+parts rest key = record { cell = record { 0 = 262143 - rest }; key = key }
 
--- writing a node
-winner_same : (one other best one' other' best' : Leader) → one ≡ one' → other ≡ other' → best ≡ best' → IsWinner one other best → IsWinner one' other' best'
-winner_same one other best one' other' best' first second third wins =
-    subst (λ x. IsWinner x other' best') first (subst (λ x. IsWinner one x best') second (subst (IsWinner one other) third wins))
+keyed_rank : (key held : ℕ) → leader_of (key * 262144 + held % 262144) ≡ keyed (leader_of held) key
+keyed_rank key held =
+    let rest : (key * 262144 + held % 262144) % 262144 ≡ held % 262144 = omega arith in
+    let whole : (key * 262144 + held % 262144) / 262144 ≡ key = omega arith in
+    ap (λ (r : ℕ). parts r ((key * 262144 + held % 262144) / 262144)) rest ∙ ap (λ (k : ℕ). parts (held % 262144) k) whole
 
-won_elsewhere : (nodes : List Leader) (place : ℕ) (best : Leader) (node : ℕ) → node ≢ place → 2 * node ≢ place → 2 * node + 1 ≢ place → IsWon nodes node
-    → IsWon (set nodes place best) node
-won_elsewhere nodes place best node here low high won =
-    winner_same _ _ _ _ _ _ (sym (get_or-set_other nodes place (2 * node) best nobody low)) (sym (get_or-set_other nodes place (2 * node + 1) best nobody high))
-    (sym (get_or-set_other nodes place node best nobody here)) won
+unkeyed_leader : (cell : CellId) → cell.0 < 262144 → leader_of (unkeyed_rank cell) ≡ unkeyed cell
+unkeyed_leader cell small =
+    let place : 262143 - (262143 - cell.0) % 262144 ≡ cell.0 = omega (arith, small) in
+    let none : (262143 - cell.0) / 262144 ≡ 0 = omega (arith, small) in
+    let pair : ℕ → ℕ → Leader = λ c k. record { cell = record { 0 = c }; key = k } in
+    ap (λ (c : ℕ). pair c ((262143 - cell.0) / 262144)) place ∙ ap (λ (k : ℕ). pair cell.0 k) none
 
-won_here : (nodes : List Leader) (place : ℕ) (best : Leader) → 1 ≤ place → place < length nodes → IsWinner (leader_at nodes (2 * place)) (leader_at nodes (2 * place + 1)) best
-    → IsWon (set nodes place best) place
-won_here nodes place best some within wins =
-    winner_same _ _ _ _ _ _ (sym (get_or-set_other nodes place (2 * place) best nobody (λ e. omega (arith, e)))) (sym (get_or-set_other nodes place (2 * place + 1) best nobody (λ e. omega (arith, e))))
-    (sym (get_or-set_same nodes place best nobody within)) wins
+unkeyed_leaders : (cells : List CellId) → All (λ (cell : CellId). cell.0 < 262144) cells → map leader_of (map unkeyed_rank cells) ≡ map unkeyed cells
+unkeyed_leaders [] small = refl
+unkeyed_leaders (cell ∷ cells) small =
+    let rest = unkeyed_leaders cells (λ k d below. small (suc k) d (omega (arith, below))) in
+    ap (λ (leader : Leader). leader ∷ map leader_of (map unkeyed_rank cells)) (unkeyed_leader cell (small 0 cell (omega arith))) ∙ ap (λ (leaders : List Leader). unkeyed cell ∷ leaders) rest
 
--- the nodes from one on hold their winners
-pub record ArePlayed (slots : ℕ) (nodes : List Leader) (from : ℕ) : Type 0 where
-  pub many : length nodes ≡ slots + slots
-  pub won : (node : ℕ) → 1 ≤ node → from ≤ node → node < slots → IsWon nodes node
-
-pub played_more : (slots : ℕ) (nodes : List Leader) (place from : ℕ) (best : Leader) → ArePlayed slots nodes from → place + 1 ≡ from → 1 ≤ place → place < slots
-    → IsWinner (leader_at nodes (2 * place)) (leader_at nodes (2 * place + 1)) best → ArePlayed slots (set nodes place best) place
-played_more slots nodes place from best played next some below wins = record {
-  many = length-set nodes place best ∙ played.many;
-  won = λ node one above less. by node one above less (cases_eq node place);
-}
-  where
-    by : (node : ℕ) → 1 ≤ node → place ≤ node → node < slots → (node ≡ place) ⊎ (node ≢ place) → IsWon (set nodes place best) node
-    by node one above less (inl same) = subst (IsWon (set nodes place best)) (sym same) (won_here nodes place best some (omega (arith, played.many)) wins)
-    by node one above less (inr other) =
-        won_elsewhere nodes place best node other (λ e. omega (arith, e)) (λ e. omega (arith, e)) (played.won node one (omega (arith, other, next)) less)
-
--- playing the matches of a changed node again
-pub replayed : (slots : ℕ) (nodes : List Leader) (hole : ℕ) (best : Leader) → IsTreeBut slots nodes hole → 1 ≤ hole → hole < slots
-    → IsWinner (leader_at nodes (2 * hole)) (leader_at nodes (2 * hole + 1)) best → IsTreeBut slots (set nodes hole best) (hole / 2)
-replayed slots nodes hole best tree some below wins = record {
-  many = length-set nodes hole best ∙ tree.many;
-  won = λ node one less apart. by node one less apart (cases_eq node hole);
-}
-  where
-    by : (node : ℕ) → 1 ≤ node → node < slots → node ≢ hole / 2 → (node ≡ hole) ⊎ (node ≢ hole) → IsWon (set nodes hole best) node
-    by node one less apart (inl same) = subst (IsWon (set nodes hole best)) (sym same) (won_here nodes hole best some (omega (arith, tree.many)) wins)
-    by node one less apart (inr other) =
-        won_elsewhere nodes hole best node other (λ e. apart (omega (arith, e))) (λ e. apart (omega (arith, e))) (tree.won node one less other)
+leader_there : (inner : ℕ) (nodes : List ℕ) (slot : ℕ) → inner + slot < length nodes → leader_at (map leader_of (drop inner nodes)) slot ≡ leader_of (rank_at nodes (inner + slot))
+leader_there inner nodes slot inside =
+    get_or-map leader_of (drop inner nodes) slot 0 nobody (omega (arith, inside, length-drop inner nodes)) ∙ ap leader_of (get_or-drop inner nodes slot 0)
 
 -- a slot with another key
-pub leaf_keyed : (slots : ℕ) (nodes : List Leader) (slot key : ℕ)
-    → drop slots (set nodes (slots + slot) (keyed (leader_at nodes (slots + slot)) key)) ≡ rekeyed (drop slots nodes) slot key
-leaf_keyed slots nodes slot key =
-    drop-set-add slots nodes slot _ ∙ ap (λ (leader : Leader). set (drop slots nodes) slot (keyed leader key)) (sym (get_or-drop slots nodes slot nobody))
+pub slot_keyed : (inner : ℕ) (nodes : List ℕ) (slot key rank : ℕ) → inner + slot < length nodes → rank ≡ key * 262144 + rank_at nodes (inner + slot) % 262144
+    → map leader_of (drop inner (set nodes (inner + slot) rank)) ≡ rekeyed (map leader_of (drop inner nodes)) slot key
+slot_keyed inner nodes slot key rank inside is =
+    let leaves = map leader_of (drop inner nodes) in
+    let leader = ap leader_of is ∙ keyed_rank key (rank_at nodes (inner + slot)) ∙ ap (λ (l : Leader). keyed l key) (sym (leader_there inner nodes slot inside)) in
+    ap (map leader_of) (drop-set-add inner nodes slot _) ∙ map-set leader_of (drop inner nodes) slot _ ∙ ap (λ (l : Leader). set leaves slot l) leader
 
--- every node holds a slot's leader, and is behind the first
-abbrev pub leaf_at : ℕ → List Leader → ℕ → Leader
-leaf_at slots nodes slot = leader_at nodes (slots + slot)
+-- writing a node
+apart : (place node other : ℕ) → IsElsewhere place node → 4 * node + 1 ≤ other → other ≤ 4 * node + 4 → other ≢ place
+apart place node other (inl less) from upto = λ same. omega (arith, less, from, same)
+apart place node other (inr more) from upto = λ same. omega (arith, more, upto, same)
 
-pub record IsLeaf (slots count : ℕ) (nodes : List Leader) (leader : Leader) : Type 0 where
-  pub slot : ℕ
-  pub within : slot < count
-  pub there : leaf_at slots nodes slot ≡ leader
-
-leaf_as : (slots count : ℕ) (nodes : List Leader) (one other : Leader) → IsLeaf slots count nodes one → other ≡ one → IsLeaf slots count nodes other
-leaf_as slots count nodes one other leaf same = record { slot = leaf.slot; within = leaf.within; there = leaf.there ∙ sym same }
-
-node_leaf : (slots : ℕ) (nodes : List Leader) → IsTree slots nodes → (fuel node : ℕ) → 1 ≤ node → node < slots + slots → slots + slots ≤ node + fuel
-    → IsLeaf slots slots nodes (leader_at nodes node)
-node_leaf slots nodes tree zero node some below enough = absurd (omega arith)
-node_leaf slots nodes tree (suc fuel) node some below enough =
-    by (cases_lt node slots) (λ other one less long. node_leaf slots nodes tree fuel other one less long)
+place_cases : (place node : ℕ) → IsElsewhere place node ⊎ ((4 * node + 1 ≤ place) × (place ≤ 4 * node + 4))
+place_cases place node = by (cases_lt place (4 * node + 1)) (cases_lt (4 * node + 4) place)
   where
-    Reach : Type 0
-    Reach = (other : ℕ) → 1 ≤ other → other < slots + slots → slots + slots ≤ other + fuel → IsLeaf slots slots nodes (leader_at nodes other)
+    by : (place < 4 * node + 1) ⊎ (4 * node + 1 ≤ place) → (4 * node + 4 < place) ⊎ (place ≤ 4 * node + 4) → IsElsewhere place node ⊎ ((4 * node + 1 ≤ place) × (place ≤ 4 * node + 4))
+    by (inl less) other = inl (inl less)
+    by (inr from) (inl more) = inl (inr more)
+    by (inr from) (inr upto) = inr (from, upto)
 
-    of : node < slots → Reach → (leader_at nodes node ≡ leader_at nodes (2 * node)) ⊎ (leader_at nodes node ≡ leader_at nodes (2 * node + 1))
-        → IsLeaf slots slots nodes (leader_at nodes node)
-    of inner reach (inl low) = leaf_as slots slots nodes _ _ (reach (2 * node) (omega arith) (omega arith) (omega arith)) low
-    of inner reach (inr high) = leaf_as slots slots nodes _ _ (reach (2 * node + 1) (omega arith) (omega arith) (omega arith)) high
+greatest_elsewhere : (nodes : List ℕ) (place rank node best : ℕ) → IsElsewhere place node → IsGreatest nodes node best → IsGreatest (set nodes place rank) node best
+greatest_elsewhere nodes place rank node best elsewhere greatest = record {
+  child = greatest.child;
+  from = greatest.from;
+  upto = greatest.upto;
+  within = omega (arith, greatest.within, length-set nodes place rank);
+  there = get_or-set_other nodes place greatest.child rank 0 (apart place node greatest.child elsewhere greatest.from greatest.upto) ∙ greatest.there;
+  ahead = λ other from upto.
+      omega (arith, get_or-set_other nodes place other rank 0 (apart place node other elsewhere from upto), greatest.ahead other from upto);
+}
 
-    by : (node < slots) ⊎ (slots ≤ node) → Reach → IsLeaf slots slots nodes (leader_at nodes node)
-    by (inl inner) reach = of inner reach (tree.won node some inner).among
-    by (inr leaf) reach = record { slot = node - slots; within = omega arith; there = ap (leader_at nodes) (let same : slots + (node - slots) ≡ node = omega arith in same) }
+won_elsewhere : (nodes : List ℕ) (place rank node : ℕ) → node ≢ place → IsElsewhere place node → IsWon nodes node → IsWon (set nodes place rank) node
+won_elsewhere nodes place rank node other elsewhere won =
+    subst (λ (best : ℕ). IsGreatest (set nodes place rank) node best) (sym (get_or-set_other nodes place node rank 0 other)) (greatest_elsewhere nodes place rank node _ elsewhere won)
 
--- a node is one of the two below its half
-halves : (node : ℕ) → (2 * (node / 2) ≡ node) ⊎ (2 * (node / 2) + 1 ≡ node)
-halves node = by (cases_lt node (2 * (node / 2) + 1))
-  where
-    by : (node < 2 * (node / 2) + 1) ⊎ (2 * (node / 2) + 1 ≤ node) → (2 * (node / 2) ≡ node) ⊎ (2 * (node / 2) + 1 ≡ node)
-    by (inl even) = inl (omega arith)
-    by (inr odd) = inr (omega arith)
+won_here : (nodes : List ℕ) (place best : ℕ) → place < length nodes → IsGreatest nodes place best → IsWon (set nodes place best) place
+won_here nodes place best inside greatest =
+    subst (λ (rank : ℕ). IsGreatest (set nodes place best) place rank) (sym (get_or-set_same nodes place best 0 inside)) (greatest_elsewhere nodes place best place best (inl (omega arith)) greatest)
 
-pub behind_half : (slots : ℕ) (nodes : List Leader) (node : ℕ) → IsTree slots nodes → 2 ≤ node → node < slots + slots → IsBehind (leader_at nodes node) (leader_at nodes (node / 2))
-behind_half slots nodes node tree some below = by (halves node)
-  where
-    won : IsWon nodes (node / 2)
-    won = tree.won (node / 2) (omega arith) (omega arith)
-
-    by : (2 * (node / 2) ≡ node) ⊎ (2 * (node / 2) + 1 ≡ node) → IsBehind (leader_at nodes node) (leader_at nodes (node / 2))
-    by (inl even) = subst (λ (k : ℕ). IsBehind (leader_at nodes k) (leader_at nodes (node / 2))) even won.one_behind
-    by (inr odd) = subst (λ (k : ℕ). IsBehind (leader_at nodes k) (leader_at nodes (node / 2))) odd won.other_behind
-
-behind_first : (slots : ℕ) (nodes : List Leader) → IsTree slots nodes → (fuel node : ℕ) → node ≤ fuel → 1 ≤ node → node < slots + slots → IsBehind (leader_at nodes node) (leader_at nodes 1)
-behind_first slots nodes tree zero node few some below = absurd (omega arith)
-behind_first slots nodes tree (suc fuel) node few some below = by (cases_eq node 1) (λ other less one in_tree. behind_first slots nodes tree fuel other less one in_tree)
-  where
-    by : (node ≡ 1) ⊎ (node ≢ 1) → ((other : ℕ) → other ≤ fuel → 1 ≤ other → other < slots + slots → IsBehind (leader_at nodes other) (leader_at nodes 1)) → IsBehind (leader_at nodes node) (leader_at nodes 1)
-    by (inl first) rest = subst (λ (k : ℕ). IsBehind (leader_at nodes k) (leader_at nodes 1)) (sym first) (behind_self (leader_at nodes 1))
-    by (inr other) rest =
-        behind_trans _ _ _ (behind_half slots nodes node tree (omega (arith, other)) below)
-        (rest (node / 2) (omega (arith, other)) (omega (arith, other)) (omega arith))
-
-leaf_dropped : (slots : ℕ) (nodes : List Leader) (slot : ℕ) → leader_at (drop slots nodes) slot ≡ leaf_at slots nodes slot
-leaf_dropped slots nodes slot = get_or-drop slots nodes slot nobody
-
-pub first_leads : (slots : ℕ) (nodes : List Leader) → IsTree slots nodes → 1 ≤ slots → IsBest (drop slots nodes) (length (drop slots nodes)) (leader_at nodes 1)
-first_leads slots nodes tree some = record {
-  slot = leaf.slot;
-  within = omega (arith, leaf.within, many);
-  there = leaf_dropped slots nodes leaf.slot ∙ leaf.there;
-  ahead = λ other below.
-      subst (λ (l : Leader). IsBehind l (leader_at nodes 1)) (sym (leaf_dropped slots nodes other))
-      (behind_first slots nodes tree (slots + other) (slots + other) (omega arith) (omega arith) (omega (arith, below, many)));
+laid_set : (inner : ℕ) (nodes : List ℕ) (place rank : ℕ) → place < length nodes → rank < 2 ^ 50 → IsLaidOut inner nodes → IsLaidOut inner (set nodes place rank)
+laid_set inner nodes place rank inside small laid = record {
+  many = omega (arith, laid.many, length-set nodes place rank);
+  few = omega (arith, laid.few, length-set nodes place rank);
+  small = λ other. by other (cases_eq other place);
 }
   where
-    leaf : IsLeaf slots slots nodes (leader_at nodes 1)
-    leaf = node_leaf slots nodes tree (slots + slots) 1 (omega arith) (omega arith) (omega arith)
+    by : (other : ℕ) → (other ≡ place) ⊎ (other ≢ place) → rank_at (set nodes place rank) other < 2 ^ 50
+    by other (inl same) = subst (λ (k : ℕ). rank_at (set nodes place rank) k < 2 ^ 50) (sym same) (subst (λ (r : ℕ). r < 2 ^ 50) (sym (get_or-set_same nodes place rank 0 inside)) small)
+    by other (inr apart) = subst (λ (r : ℕ). r < 2 ^ 50) (sym (get_or-set_other nodes place other rank 0 apart)) (laid.small other)
 
-    many : length (drop slots nodes) ≡ slots
-    many = omega (arith, length-drop slots nodes, tree.many)
+greatest_small : (inner : ℕ) (nodes : List ℕ) (node best : ℕ) → IsLaidOut inner nodes → IsGreatest nodes node best → best < 2 ^ 50
+greatest_small inner nodes node best laid greatest = subst (λ (r : ℕ). r < 2 ^ 50) greatest.there (laid.small greatest.child)
+
+restored : (nodes : List ℕ) (place rank : ℕ) → set (set nodes place rank) place (rank_at nodes place) ≡ nodes
+restored nodes place rank = set-set nodes place rank (rank_at nodes place) ∙ set-get_or nodes place 0
+
+-- the greatest of some ranks
+pub record IsMore (one other better : ℕ) : Type 0 where
+  pub among : (better ≡ one) ⊎ (better ≡ other)
+  pub one_behind : one ≤ better
+  pub other_behind : other ≤ better
+
+pub more_of : (one other better : ℕ) → better ≡ max one other → IsMore one other better
+more_of one other better is = record { among = by (cases_lt one other); one_behind = omega (arith, is); other_behind = omega (arith, is) }
+  where
+    by : (one < other) ⊎ (other ≤ one) → (better ≡ one) ⊎ (better ≡ other)
+    by (inl less) = inr (omega (arith, is, less))
+    by (inr not) = inl (omega (arith, is, not))
+
+-- four nodes at most
+pub four_most : (nodes : List ℕ) (start last second third fourth early late best : ℕ) → start ≤ last → second ≡ min (start + 1) last → third ≡ min (start + 2) last → fourth ≡ min (start + 3) last
+    → IsMore (rank_at nodes start) (rank_at nodes second) early → IsMore (rank_at nodes third) (rank_at nodes fourth) late → IsMore early late best → IsMost nodes start last best
+four_most nodes start last second third fourth early late best order second_is third_is fourth_is early_more late_more more = by more.among early_more.among late_more.among
+  where
+    fourth_behind : (other : ℕ) → start + 3 ≡ other → other ≤ last → rank_at nodes other ≤ best
+    fourth_behind other is inside =
+        let same : fourth ≡ other = omega (arith, fourth_is, is, inside) in
+        omega (arith, ap (rank_at nodes) same, late_more.other_behind, more.other_behind)
+
+    third_behind : (other : ℕ) → start + 2 ≡ other → other ≤ last → rank_at nodes other ≤ best
+    third_behind other is inside =
+        let same : third ≡ other = omega (arith, third_is, is, inside) in
+        omega (arith, ap (rank_at nodes) same, late_more.one_behind, more.other_behind)
+
+    second_behind : (other : ℕ) → start + 1 ≡ other → other ≤ last → rank_at nodes other ≤ best
+    second_behind other is inside =
+        let same : second ≡ other = omega (arith, second_is, is, inside) in
+        omega (arith, ap (rank_at nodes) same, early_more.other_behind, more.one_behind)
+
+    behind : (other : ℕ) → start ≤ other → other ≤ last → other ≤ start + 3 → (other ≡ start) ⊎ (other ≢ start) → (start + 1 ≡ other) ⊎ (start + 1 ≢ other) → (start + 2 ≡ other) ⊎ (start + 2 ≢ other)
+        → rank_at nodes other ≤ best
+    behind other from inside few (inl first) _ _ = omega (arith, ap (rank_at nodes) first, early_more.one_behind, more.one_behind)
+    behind other from inside few (inr not_first) (inl is) _ = second_behind other is inside
+    behind other from inside few (inr not_first) (inr not_second) (inl is) = third_behind other is inside
+    behind other from inside few (inr not_first) (inr not_second) (inr not_third) =
+        fourth_behind other (omega (arith, from, few, not_first, not_second, not_third)) inside
+
+    one_of : (node : ℕ) → start ≤ node → node ≤ last → node ≤ start + 3 → rank_at nodes node ≡ best → IsMost nodes start last best
+    one_of node from inside near there = record {
+      node = node;
+      from = from;
+      upto = inside;
+      near = near;
+      there = there;
+      ahead = λ other from upto few. behind other from upto few (cases_eq other start) (cases_eq (start + 1) other) (cases_eq (start + 2) other);
+    }
+
+    by : (best ≡ early) ⊎ (best ≡ late) → (early ≡ rank_at nodes start) ⊎ (early ≡ rank_at nodes second) → (late ≡ rank_at nodes third) ⊎ (late ≡ rank_at nodes fourth) → IsMost nodes start last best
+    by (inl one) (inl first) _ = one_of start (omega arith) order (omega arith) (sym (one ∙ first))
+    by (inl one) (inr other) _ = one_of second (omega (arith, second_is, order)) (omega (arith, second_is)) (omega (arith, second_is)) (sym (one ∙ other))
+    by (inr two) _ (inl first) = one_of third (omega (arith, third_is, order)) (omega (arith, third_is)) (omega (arith, third_is)) (sym (two ∙ first))
+    by (inr two) _ (inr other) = one_of fourth (omega (arith, fourth_is, order)) (omega (arith, fourth_is)) (omega (arith, fourth_is)) (sym (two ∙ other))
+
+-- those below a node, as far as there are such
+pub greatest_of : (nodes : List ℕ) (node best : ℕ) → 4 * node + 1 < length nodes → IsMost nodes (4 * node + 1) (length nodes - 1) best → IsGreatest nodes node best
+greatest_of nodes node best some most = record {
+  child = most.node;
+  from = most.from;
+  upto = omega (arith, most.near);
+  within = omega (arith, most.upto, some);
+  there = most.there;
+  ahead = λ other from upto. by other from upto (cases_lt other (length nodes));
+}
+  where
+    by : (other : ℕ) → 4 * node + 1 ≤ other → other ≤ 4 * node + 4 → (other < length nodes) ⊎ (length nodes ≤ other) → rank_at nodes other ≤ best
+    by other from upto (inl inside) = most.ahead other from (omega (arith, inside)) (omega (arith, upto))
+    by other from upto (inr past) = omega (arith, get_or_past nodes other 0 past)
+
+-- the first four and the last four of some nodes
+pub outer_of : (nodes : List ℕ) (low high start left right best : ℕ) → low < high → start ≡ max (high - 4) low → IsMost nodes low (high - 1) left → IsMost nodes start (high - 1) right
+    → IsMore left right best → IsOuter nodes low high best
+outer_of nodes low high start left right best less start_is first last more = by more.among
+  where
+    outer : (node : ℕ) → low ≤ node → node < high → rank_at nodes node ≡ best → IsOuter nodes low high best
+    outer node from below there = record {
+      node = node;
+      from = from;
+      below = below;
+      there = there;
+      first = λ other from below near. omega (arith, first.ahead other from (omega (arith, below)) near, more.one_behind);
+      last = λ other from below near.
+          omega (arith, last.ahead other (omega (arith, near, from, start_is)) (omega (arith, below)) (omega (arith, below, start_is)), more.other_behind);
+    }
+
+    by : (best ≡ left) ⊎ (best ≡ right) → IsOuter nodes low high best
+    by (inl one) = outer first.node first.from (omega (arith, first.upto, less)) (first.there ∙ sym one)
+    by (inr other) = outer last.node (omega (arith, last.from, start_is)) (omega (arith, last.upto, less)) (last.there ∙ sym other)
+
+-- the slots behind nodes that are not played yet
+unkeyed_small : (cells : List CellId) (place : ℕ) → rank_at (map unkeyed_rank cells) place < 2 ^ 50
+unkeyed_small [] place = omega arith
+unkeyed_small (cell ∷ cells) zero = omega arith
+unkeyed_small (cell ∷ cells) (suc place) = unkeyed_small cells place
+
+seats_small : (inner : ℕ) (cells : List CellId) (place : ℕ) → rank_at (replicate inner 0 ++ map unkeyed_rank cells) place < 2 ^ 50
+seats_small zero cells place = unkeyed_small cells place
+seats_small (suc inner) cells zero = omega arith
+seats_small (suc inner) cells (suc place) = seats_small inner cells place
+
+pub seats_laid : (inner : ℕ) (nodes : List ℕ) (cells : List CellId) → inner ≡ (length cells + 1) / 3 → nodes ≡ replicate inner 0 ++ map unkeyed_rank cells → IsLaidOut inner nodes
+seats_laid inner nodes cells third is = record {
+  many = omega (arith, long, third);
+  few = omega (arith, long, third);
+  small = λ place. subst (λ (ranks : List ℕ). rank_at ranks place < 2 ^ 50) (sym is) (seats_small inner cells place);
+}
+  where
+    long : length nodes ≡ inner + length cells
+    long = omega (arith, ap length is, length-append (replicate inner 0) (map unkeyed_rank cells), length-replicate {A = ℕ} inner 0, length-map cells unkeyed_rank)
+
+pub seats_leaves : (inner : ℕ) (nodes : List ℕ) (cells : List CellId) → All (λ (cell : CellId). cell.0 < 262144) cells → nodes ≡ replicate inner 0 ++ map unkeyed_rank cells
+    → map leader_of (drop inner nodes) ≡ map unkeyed cells
+seats_leaves inner nodes cells small is = ap (λ (ranks : List ℕ). map leader_of (drop inner ranks)) is ∙ ap (map leader_of) (leaves inner) ∙ unkeyed_leaders cells small
+  where
+    leaves : (count : ℕ) → drop count (replicate count 0 ++ map unkeyed_rank cells) ≡ map unkeyed_rank cells
+    leaves count =
+        subst (λ (k : ℕ). drop k (replicate count 0 ++ map unkeyed_rank cells) ≡ map unkeyed_rank cells) (length-replicate {A = ℕ} count 0) (drop-append_seam (replicate count 0) (map unkeyed_rank cells))
+
+-- the nodes from one on hold the greatest of those below them
+pub record ArePlayed (inner : ℕ) (nodes : List ℕ) (start : ℕ) : Type 0 where
+  pub laid : IsLaidOut inner nodes
+  pub won : (node : ℕ) → start ≤ node → node < inner → IsWon nodes node
+
+pub played_more : (inner : ℕ) (nodes : List ℕ) (place start best : ℕ) → ArePlayed inner nodes start → place + 1 ≡ start → place < inner → IsGreatest nodes place best
+    → ArePlayed inner (set nodes place best) place
+played_more inner nodes place start best played next below greatest = record {
+  laid = laid_set inner nodes place best (omega (arith, played.laid.many)) (greatest_small inner nodes place best played.laid greatest) played.laid;
+  won = λ node from less. by node from less (cases_eq node place);
+}
+  where
+    by : (node : ℕ) → place ≤ node → node < inner → (node ≡ place) ⊎ (node ≢ place) → IsWon (set nodes place best) node
+    by node from less (inl same) = subst (IsWon (set nodes place best)) (sym same) (won_here nodes place best (omega (arith, played.laid.many)) greatest)
+    by node from less (inr other) =
+        won_elsewhere nodes place best node other (inl (omega (arith, from))) (played.won node (omega (arith, other, next, from)) less)
+
+-- the node above a changed node
+abbrev above_of : ℕ → ℕ
+above_of changed = (changed - 1) / 4
+
+pub above_inner : (inner : ℕ) (nodes : List ℕ) (changed held : ℕ) → IsWaiting inner nodes changed held → 0 < changed → above_of changed < inner
+above_inner inner nodes changed held waiting below = omega (arith, waiting.laid.few, waiting.inside)
+
+-- the match of a changed node is played, and it is the node above that has changed
+pub replayed : (inner : ℕ) (nodes : List ℕ) (changed held best : ℕ) → IsWaiting inner nodes changed held → 0 < changed → IsGreatest nodes (above_of changed) best
+    → IsWaiting inner (set nodes (above_of changed) best) (above_of changed) (rank_at nodes (above_of changed))
+replayed inner nodes changed held best waiting below greatest = record {
+  laid = laid_set inner nodes above best inside (greatest_small inner nodes above best waiting.laid greatest) waiting.laid;
+  inside = omega (arith, inside, length-set nodes above best);
+  won = λ node less elsewhere. by node less elsewhere (cases_eq node above);
+  before = λ node less from upto.
+      subst (λ (ranks : List ℕ). IsWon ranks node) (sym (restored nodes above best)) (waiting.won node less (inr (omega (arith, from, upto, below))));
+}
+  where
+    above : ℕ
+    above = above_of changed
+
+    inside : above < length nodes
+    inside = omega (arith, waiting.inside, below)
+
+    by : (node : ℕ) → node < inner → IsElsewhere above node → (node ≡ above) ⊎ (node ≢ above) → IsWon (set nodes above best) node
+    by node less elsewhere (inl same) = subst (IsWon (set nodes above best)) (sym same) (won_here nodes above best inside greatest)
+    by node less elsewhere (inr other) = won_elsewhere nodes above best node other elsewhere (rest node less other (place_cases changed node))
+      where
+        rest : (node : ℕ) → node < inner → node ≢ above → IsElsewhere changed node ⊎ ((4 * node + 1 ≤ changed) × (changed ≤ 4 * node + 4)) → IsWon nodes node
+        rest node less other (inl apart) = waiting.won node less apart
+        rest node less other (inr (from, upto)) = absurd (other (omega (arith, from, upto)))
+
+-- every node holds a slot's rank, and no rank is greater than that of the first node
+pub record IsSlot (inner count : ℕ) (nodes : List ℕ) (rank : ℕ) : Type 0 where
+  pub slot : ℕ
+  pub within : slot < count
+  pub there : rank_at nodes (inner + slot) ≡ rank
+
+slot_as : (inner count : ℕ) (nodes : List ℕ) (one other : ℕ) → IsSlot inner count nodes one → other ≡ one → IsSlot inner count nodes other
+slot_as inner count nodes one other slot same = record { slot = slot.slot; within = slot.within; there = slot.there ∙ sym same }
+
+slot_itself : (inner count : ℕ) (nodes : List ℕ) (node : ℕ) → inner ≤ node → node < inner + count → IsSlot inner count nodes (rank_at nodes node)
+slot_itself inner count nodes node outside below =
+    let same : inner + (node - inner) ≡ node = omega (arith, outside) in
+    record { slot = node - inner; within = omega (arith, outside, below); there = ap (rank_at nodes) same }
+
+node_slot : (inner count : ℕ) (nodes : List ℕ) → IsTree inner nodes → length nodes ≡ inner + count → (fuel node : ℕ) → node < length nodes → length nodes ≤ node + fuel
+    → IsSlot inner count nodes (rank_at nodes node)
+node_slot inner count nodes tree long zero node inside enough = absurd (omega (arith, inside, enough))
+node_slot inner count nodes tree long (suc fuel) node inside enough =
+    by (cases_lt node inner) (λ other below more. node_slot inner count nodes tree long fuel other below more)
+  where
+    by : (node < inner) ⊎ (inner ≤ node) → ((other : ℕ) → other < length nodes → length nodes ≤ other + fuel → IsSlot inner count nodes (rank_at nodes other)) → IsSlot inner count nodes (rank_at nodes node)
+    by (inl less) rest =
+        let won = tree.won node less in
+        slot_as inner count nodes _ _ (rest won.child won.within (omega (arith, won.from, enough))) (sym won.there)
+    by (inr outside) rest = slot_itself inner count nodes node outside (omega (arith, inside, long))
+
+up_one : (inner : ℕ) (nodes : List ℕ) (node : ℕ) → IsTree inner nodes → 0 < node → node < length nodes → rank_at nodes node ≤ rank_at nodes ((node - 1) / 4)
+up_one inner nodes node tree below inside =
+    (tree.won ((node - 1) / 4) (omega (arith, inside, below, tree.laid.few))).ahead node (omega (arith, below)) (omega (arith, below))
+
+up_to_root : (inner : ℕ) (nodes : List ℕ) → IsTree inner nodes → (fuel node : ℕ) → node ≤ fuel → node < length nodes → rank_at nodes node ≤ rank_at nodes 0
+up_to_root inner nodes tree zero node few inside =
+    let root : node ≡ 0 = omega (arith, few) in
+    omega (arith, ap (rank_at nodes) root)
+up_to_root inner nodes tree (suc fuel) node few inside = by (cases_eq node 0) (λ other less within. up_to_root inner nodes tree fuel other less within)
+  where
+    by : (node ≡ 0) ⊎ (node ≢ 0) → ((other : ℕ) → other ≤ fuel → other < length nodes → rank_at nodes other ≤ rank_at nodes 0) → rank_at nodes node ≤ rank_at nodes 0
+    by (inl root) rest = omega (arith, ap (rank_at nodes) root)
+    by (inr below) rest =
+        omega (arith, up_one inner nodes node tree (omega (arith, below)) inside, rest ((node - 1) / 4) (omega (arith, below, few)) (omega (arith, below, inside)))
+
+-- the greatest rank of some slots is that of the best leader
+pub top_best : (inner : ℕ) (nodes : List ℕ) (count best : ℕ) → inner + count ≤ length nodes → IsTop inner nodes count best → IsBest (map leader_of (drop inner nodes)) count (leader_of best)
+top_best inner nodes count best inside top = record {
+  slot = top.slot;
+  within = top.within;
+  there = leader_there inner nodes top.slot (omega (arith, top.within, inside)) ∙ ap leader_of top.there;
+  ahead = λ other below.
+      subst (λ (l : Leader). IsBehind l (leader_of best)) (sym (leader_there inner nodes other (omega (arith, below, inside)))) (behind_with _ _ (top.ahead other below));
+}
+
+pub leaves_length : (inner : ℕ) (nodes : List ℕ) → IsTree inner nodes → inner + length (map leader_of (drop inner nodes)) ≡ length nodes
+leaves_length inner nodes tree = omega (arith, length-map (drop inner nodes) leader_of, length-drop inner nodes, tree.laid.many)
+
+pub root_best : (inner : ℕ) (nodes : List ℕ) → IsTree inner nodes → 0 < length nodes → IsBest (map leader_of (drop inner nodes)) (length (map leader_of (drop inner nodes))) (leader_of (rank_at nodes 0))
+root_best inner nodes tree some = top_best inner nodes count (rank_at nodes 0) (omega (arith, long)) (record {
+  slot = slot.slot;
+  within = slot.within;
+  there = slot.there;
+  ahead = λ other below. up_to_root inner nodes tree (inner + other) (inner + other) (omega arith) (omega (arith, long, below));
+})
+  where
+    count : ℕ
+    count = length (map leader_of (drop inner nodes))
+
+    long : inner + count ≡ length nodes
+    long = leaves_length inner nodes tree
+
+    slot : IsSlot inner count nodes (rank_at nodes 0)
+    slot = node_slot inner count nodes tree (sym long) (length nodes) 0 some (omega arith)
 
 -- asking the nodes that stand for a front of the slots
-pub record IsLeft (slots : ℕ) (nodes : List Leader) (low high : ℕ) (leaf : Leader) : Type 0 where
+pub record IsLeft (nodes : List ℕ) (low high rank : ℕ) : Type 0 where
   pub node : ℕ
   pub from : low ≤ node
   pub below : node < high
-  pub behind : IsBehind leaf (leader_at nodes node)
+  pub behind : rank ≤ rank_at nodes node
 
-pub record IsAsked (slots count : ℕ) (nodes : List Leader) (best : Leader) (low high : ℕ) : Type 0 where
+pub record IsAsked (inner count : ℕ) (nodes : List ℕ) (best low high : ℕ) : Type 0 where
   pub some : 1 ≤ low
-  pub within : high ≤ slots + slots
-  pub held : IsLeaf slots count nodes best
-  pub covered : (slot : ℕ) → slot < count → IsBehind (leaf_at slots nodes slot) best ⊎ IsLeft slots nodes low high (leaf_at slots nodes slot)
-  pub inside : (node : ℕ) → low ≤ node → node < high → IsLeaf slots count nodes (leader_at nodes node)
+  pub within : high ≤ length nodes
+  pub held : IsSlot inner count nodes best
+  pub covered : (slot : ℕ) → slot < count → (rank_at nodes (inner + slot) ≤ best) ⊎ IsLeft nodes low high (rank_at nodes (inner + slot))
+  pub inside : (node : ℕ) → low ≤ node → node < high → IsSlot inner count nodes (rank_at nodes node)
 
-pub asked_none : (slots count : ℕ) (nodes : List Leader) → 0 < count → count ≤ slots → IsAsked slots count nodes (leader_at nodes slots) slots (slots + count)
-asked_none slots count nodes some few = record {
-  some = omega arith;
-  within = omega arith;
-  held = record { slot = 0; within = omega arith; there = ap (leader_at nodes) (let same : slots + 0 ≡ slots = omega arith in same) };
-  covered = λ slot below. inr (record { node = slots + slot; from = omega arith; below = omega arith; behind = behind_self _ });
-  inside = λ node from below. record { slot = node - slots; within = omega arith; there = ap (leader_at nodes) (let same : slots + (node - slots) ≡ node = omega arith in same) };
+pub asked_none : (inner count : ℕ) (nodes : List ℕ) → IsTree inner nodes → 0 < count → inner + count < length nodes → IsAsked inner count nodes (rank_at nodes inner) inner (inner + count)
+asked_none inner count nodes tree some few = record {
+  some = omega (arith, tree.laid.few, some, few);
+  within = omega (arith, few);
+  held = slot_itself inner count nodes inner (omega arith) (omega (arith, some));
+  covered = λ slot below. inr (record { node = inner + slot; from = omega arith; below = omega (arith, below); behind = omega arith });
+  inside = λ node from below. slot_itself inner count nodes node from below;
 }
 
--- the better of the best so far and the two outermost
-pub record IsBetter (nodes : List Leader) (best : Leader) (low high : ℕ) (ends better : Leader) : Type 0 where
-  pub ends_win : IsWinner (leader_at nodes low) (leader_at nodes (high - 1)) ends
-  pub better_wins : IsWinner best ends better
-
-pub asked_more : (slots count : ℕ) (nodes : List Leader) (best : Leader) (low high : ℕ) (ends better : Leader) → IsTree slots nodes → IsAsked slots count nodes best low high → low < high
-    → IsBetter nodes best low high ends better → IsAsked slots count nodes better ((low + 1) / 2) (high / 2)
-asked_more slots count nodes best low high ends better tree asked less wins = record {
-  some = omega (arith, asked.some);
+pub asked_more : (inner count : ℕ) (nodes : List ℕ) (best low high outer better : ℕ) → IsTree inner nodes → IsAsked inner count nodes best low high → low < high
+    → IsOuter nodes low high outer → IsMore best outer better → IsAsked inner count nodes better ((low - 1) / 4 + 1) ((high - 2) / 4)
+asked_more inner count nodes best low high outer better tree asked less outermost more = record {
+  some = omega arith;
   within = omega (arith, asked.within);
-  held = held_by wins.better_wins.among wins.ends_win.among;
+  held = held_by more.among;
   covered = λ slot below. covered_by slot (asked.covered slot below);
-  inside = λ node from below. inside_by node from below (tree.won node (omega (arith, asked.some)) (omega (arith, asked.within))).among;
+  inside = λ node from below.
+      let won = tree.won node (omega (arith, below, asked.within, tree.laid.few)) in
+      slot_as inner count nodes _ _ (asked.inside won.child (omega (arith, from, won.from, asked.some)) (omega (arith, below, won.upto, asked.some, less))) (sym won.there);
 }
   where
-    held_by : (better ≡ best) ⊎ (better ≡ ends) → (ends ≡ leader_at nodes low) ⊎ (ends ≡ leader_at nodes (high - 1)) → IsLeaf slots count nodes better
-    held_by (inl kept) which = leaf_as slots count nodes _ _ asked.held kept
-    held_by (inr new) (inl first) = leaf_as slots count nodes _ _ (asked.inside low (omega arith) less) (new ∙ first)
-    held_by (inr new) (inr last) = leaf_as slots count nodes _ _ (asked.inside (high - 1) (omega arith) (omega arith)) (new ∙ last)
+    held_by : (better ≡ best) ⊎ (better ≡ outer) → IsSlot inner count nodes better
+    held_by (inl kept) = slot_as inner count nodes _ _ asked.held kept
+    held_by (inr new) = slot_as inner count nodes _ _ (asked.inside outermost.node outermost.from outermost.below) (new ∙ sym outermost.there)
 
-    ends_behind : IsBehind ends better
-    ends_behind = wins.better_wins.other_behind
+    left_by : (rank node : ℕ) → rank ≤ rank_at nodes node → low ≤ node → node < high → (low + 3 < node) ⊎ (node ≤ low + 3) → (node + 4 < high) ⊎ (high ≤ node + 4) → (rank ≤ better) ⊎ IsLeft nodes ((low - 1) / 4 + 1) ((high - 2) / 4) rank
+    left_by rank node behind from below (inr early) last = inl (omega (arith, behind, outermost.first node from below early, more.other_behind))
+    left_by rank node behind from below (inl later) (inr late) = inl (omega (arith, behind, outermost.last node from below late, more.other_behind))
+    left_by rank node behind from below (inl later) (inl earlier) = inr (record {
+      node = (node - 1) / 4;
+      from = omega (arith, later, asked.some);
+      below = omega (arith, earlier, later);
+      behind = omega (arith, behind, up_one inner nodes node tree (omega (arith, later)) (omega (arith, below, asked.within)));
+    })
 
-    parent : (leaf : Leader) (node : ℕ) → low + 1 ≤ node → node < high - 1 → IsBehind leaf (leader_at nodes node) → IsLeft slots nodes ((low + 1) / 2) (high / 2) leaf
-    parent leaf node from below behind = record {
-      node = node / 2;
-      from = omega arith;
-      below = omega arith;
-      behind = behind_trans _ _ _ behind (behind_half slots nodes node tree (omega (arith, asked.some)) (omega (arith, asked.within)));
-    }
-
-    left_by : (leaf : Leader) (node : ℕ) → IsBehind leaf (leader_at nodes node) → low ≤ node → node < high → (node ≡ low) ⊎ (node ≢ low) → (node ≡ high - 1) ⊎ (node ≢ high - 1)
-        → IsBehind leaf better ⊎ IsLeft slots nodes ((low + 1) / 2) (high / 2) leaf
-    left_by leaf node behind from below (inl first) which =
-        inl (behind_trans _ _ _ (subst (λ (k : ℕ). IsBehind leaf (leader_at nodes k)) first behind) (behind_trans _ _ _ wins.ends_win.one_behind ends_behind))
-    left_by leaf node behind from below (inr other) (inl last) =
-        inl (behind_trans _ _ _ (subst (λ (k : ℕ). IsBehind leaf (leader_at nodes k)) last behind) (behind_trans _ _ _ wins.ends_win.other_behind ends_behind))
-    left_by leaf node behind from below (inr other) (inr middle) = inr (parent leaf node (omega (arith, other)) (omega (arith, middle)) behind)
-
-    covered_by : (slot : ℕ) → IsBehind (leaf_at slots nodes slot) best ⊎ IsLeft slots nodes low high (leaf_at slots nodes slot)
-        → IsBehind (leaf_at slots nodes slot) better ⊎ IsLeft slots nodes ((low + 1) / 2) (high / 2) (leaf_at slots nodes slot)
-    covered_by slot (inl behind) = inl (behind_trans _ _ _ behind wins.better_wins.one_behind)
-    covered_by slot (inr left) = left_by (leaf_at slots nodes slot) left.node left.behind left.from left.below (cases_eq left.node low) (cases_eq left.node (high - 1))
-
-    inside_by : (node : ℕ) → (low + 1) / 2 ≤ node → node < high / 2 → (leader_at nodes node ≡ leader_at nodes (2 * node)) ⊎ (leader_at nodes node ≡ leader_at nodes (2 * node + 1))
-        → IsLeaf slots count nodes (leader_at nodes node)
-    inside_by node from below (inl even) = leaf_as slots count nodes _ _ (asked.inside (2 * node) (omega arith) (omega arith)) even
-    inside_by node from below (inr odd) = leaf_as slots count nodes _ _ (asked.inside (2 * node + 1) (omega arith) (omega arith)) odd
+    covered_by : (slot : ℕ) → (rank_at nodes (inner + slot) ≤ best) ⊎ IsLeft nodes low high (rank_at nodes (inner + slot))
+        → (rank_at nodes (inner + slot) ≤ better) ⊎ IsLeft nodes ((low - 1) / 4 + 1) ((high - 2) / 4) (rank_at nodes (inner + slot))
+    covered_by slot (inl behind) = inl (omega (arith, behind, more.one_behind))
+    covered_by slot (inr left) =
+        left_by (rank_at nodes (inner + slot)) left.node left.behind left.from left.below (cases_lt (low + 3) left.node) (cases_lt (left.node + 4) high)

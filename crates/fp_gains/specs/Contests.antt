@@ -1,5 +1,5 @@
--- Leaders, and a tournament of them in one list: node k holds the winner of nodes 2k and 2k + 1, the slots are the second half.
-use Rattle.std.specs.Prelude.{◌≡◌, ◌≢◌, ℕ, ◌+◌, ◌*◌, ◌<◌, ◌≤◌, ◌⊎◌, List, length, get_or, set, Option, Some, None}
+-- Leaders, and a tournament of their ranks in one list, four to a match: node k holds the greatest of the nodes 4k + 1 to 4k + 4, the slots come last.
+use Rattle.std.specs.Prelude.{◌≡◌, ℕ, ◌+◌, ◌-◌, ◌*◌, ◌/◌, ◌%◌, ◌^◌, ◌<◌, ◌≤◌, ◌⊎◌, List, length, get_or, set, Option, Some, None}
 use Rattle.fp_base.specs.declared.ids.CellId.{CellId}
 use Rattle.fp_gains.specs.declared.tournament.Leader.{Leader}
 
@@ -32,19 +32,76 @@ pub record IsWinner (one other best : Leader) : Type 0 where
   pub one_behind : IsBehind one best
   pub other_behind : IsBehind other best
 
--- a node holds the winner of the two below it
-abbrev pub IsWon : List Leader → ℕ → Type 0
-IsWon nodes node = IsWinner (leader_at nodes (2 * node)) (leader_at nodes (2 * node + 1)) (leader_at nodes node)
+-- whose rank it is: a rank is 2^18 times the key, and how far the cell is below the last cell that there may be
+abbrev pub leader_of : ℕ → Leader
+leader_of rank = record { cell = record { 0 = 262143 - rank % 262144 }; key = rank / 262144 }
 
--- all nodes above the slots hold their winners, but maybe one
-pub record IsTreeBut (slots : ℕ) (nodes : List Leader) (hole : ℕ) : Type 0 where
-  pub many : length nodes ≡ slots + slots
-  pub won : (node : ℕ) → 1 ≤ node → node < slots → node ≢ hole → IsWon nodes node
+-- the rank of a cell that has no key yet
+abbrev pub unkeyed_rank : CellId → ℕ
+unkeyed_rank cell = 262143 - cell.0
 
--- all nodes above the slots hold their winners
-pub record IsTree (slots : ℕ) (nodes : List Leader) : Type 0 where
-  pub many : length nodes ≡ slots + slots
-  pub won : (node : ℕ) → 1 ≤ node → node < slots → IsWon nodes node
+abbrev pub rank_at : List ℕ → ℕ → ℕ
+rank_at ranks place = get_or ranks place 0
+
+-- the greatest of four nodes at most, from one on and up to another
+pub record IsMost (nodes : List ℕ) (start last best : ℕ) : Type 0 where
+  pub node : ℕ
+  pub from : start ≤ node
+  pub upto : node ≤ last
+  pub near : node ≤ start + 3
+  pub there : rank_at nodes node ≡ best
+  pub ahead : (other : ℕ) → start ≤ other → other ≤ last → other ≤ start + 3 → rank_at nodes other ≤ best
+
+-- the greatest of the nodes below a node; past the end no rank is greater than 0
+pub record IsGreatest (nodes : List ℕ) (node best : ℕ) : Type 0 where
+  pub child : ℕ
+  pub from : 4 * node + 1 ≤ child
+  pub upto : child ≤ 4 * node + 4
+  pub within : child < length nodes
+  pub there : rank_at nodes child ≡ best
+  pub ahead : (other : ℕ) → 4 * node + 1 ≤ other → other ≤ 4 * node + 4 → rank_at nodes other ≤ best
+
+-- a node holds the greatest of those below it
+abbrev pub IsWon : List ℕ → ℕ → Type 0
+IsWon nodes node = IsGreatest nodes node (rank_at nodes node)
+
+-- each inner node has some below it, each node but the first has one above it, and each rank has a key of 32 bits
+pub record IsLaidOut (inner : ℕ) (nodes : List ℕ) : Type 0 where
+  pub many : 4 * inner ≤ length nodes + 2
+  pub few : length nodes ≤ 4 * inner + 1
+  pub small : (place : ℕ) → rank_at nodes place < 2 ^ 50
+
+-- all inner nodes hold the greatest of those below them
+pub record IsTree (inner : ℕ) (nodes : List ℕ) : Type 0 where
+  pub laid : IsLaidOut inner nodes
+  pub won : (node : ℕ) → node < inner → IsWon nodes node
+
+-- a place is not below a node
+abbrev pub IsElsewhere : ℕ → ℕ → Type 0
+IsElsewhere place node = (place < 4 * node + 1) ⊎ (4 * node + 4 < place)
+
+-- all but the match that a changed node plays in are played, and that was played while the node held another rank
+pub record IsWaiting (inner : ℕ) (nodes : List ℕ) (changed held : ℕ) : Type 0 where
+  pub laid : IsLaidOut inner nodes
+  pub inside : changed < length nodes
+  pub won : (node : ℕ) → node < inner → IsElsewhere changed node → IsWon nodes node
+  pub before : (node : ℕ) → node < inner → 4 * node + 1 ≤ changed → changed ≤ 4 * node + 4 → IsWon (set nodes changed held) node
+
+-- the greatest of the first so many slots
+pub record IsTop (inner : ℕ) (nodes : List ℕ) (count best : ℕ) : Type 0 where
+  pub slot : ℕ
+  pub within : slot < count
+  pub there : rank_at nodes (inner + slot) ≡ best
+  pub ahead : (other : ℕ) → other < count → rank_at nodes (inner + other) ≤ best
+
+-- the greatest of the first four and the last four of some nodes
+pub record IsOuter (nodes : List ℕ) (low high best : ℕ) : Type 0 where
+  pub node : ℕ
+  pub from : low ≤ node
+  pub below : node < high
+  pub there : rank_at nodes node ≡ best
+  pub first : (other : ℕ) → low ≤ other → other < high → other ≤ low + 3 → rank_at nodes other ≤ best
+  pub last : (other : ℕ) → low ≤ other → other < high → high ≤ other + 4 → rank_at nodes other ≤ best
 
 -- the best of the first so many slots: one of them, which none of them beats
 pub record IsBest (leaves : List Leader) (count : ℕ) (best : Leader) : Type 0 where

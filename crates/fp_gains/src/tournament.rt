@@ -1,7 +1,8 @@
 //! A tournament over slots, each with a cell and a key: a greater key wins, and a lesser cell among equal keys.
 
-ghost use Rattle.std.specs.Prelude.{◌≡◌, ◌+◌, ◌*◌, ◌/◌, ◌<◌, ◌≤◌, ◌^◌, ◌++◌, IfOk, length, map, drop, replicate};
-ghost use Rattle.fp_gains.specs.Contests.{nobody, leader_at, unkeyed, rekeyed, IsWinner, IsTree, IsTreeBut, IsBest, IsBestSlot};
+ghost use Rattle.std.specs.Prelude.{◌≡◌, ◌+◌, ◌-◌, ◌*◌, ◌/◌, ◌%◌, ◌<◌, ◌≤◌, ◌^◌, ◌++◌, IfOk, length, map, drop, replicate};
+ghost use Rattle.std.specs.List.{All};
+ghost use Rattle.fp_gains.specs.Contests.{leader_of, leader_at, unkeyed, unkeyed_rank, rekeyed, rank_at, IsWinner, IsMost, IsGreatest, IsLaidOut, IsTree, IsWaiting, IsTop, IsOuter, IsBestSlot};
 
 use fp_base::{CellId, NoMemory};
 use std::alloc::Global;
@@ -14,18 +15,19 @@ pub struct Leader {
     pub key: u32,
 }
 
-// What stands in a node before its match is played.
-const NOBODY: Leader = Leader {
-    cell: CellId(0),
-    key: 0,
-};
+// How many cells there may be.
+const CELLS: u64 = 1 << 18;
+
+// How many nodes play in a match.
+const PLAYERS: usize = 4;
 
 /// So many slots, each with a cell and a key. Setting a key and asking for the best of the first slots take a number of steps that is
-/// logarithmic in the slots. Our own: node k of one flat list holds the winner of nodes 2k and 2k + 1, and the slots are its second half.
+/// logarithmic in the slots. Our own: a slot is one number, its rank, which is greater for a better leader. The ranks stand in one
+/// flat list, of which node k holds the greatest of the nodes 4k + 1 to 4k + 4, and the slots are its end, behind the inner nodes.
 #[derive(Drop)]
 pub struct Tournament {
-    slots: usize,
-    nodes: Vec<Leader>,
+    inner: usize,
+    nodes: Vec<u64>,
 }
 
 impl Model for Tournament {
@@ -41,25 +43,24 @@ impl Model for Tournament {
 }
 
 impl Tournament {
-    /// A slot of key 0 for each of these cells, in this order. The only call that takes memory, two leaders for each cell; it fails where
-    /// there is none.
+    /// A slot of key 0 for each of these cells, in this order. The only call that takes memory, at most 12 bytes for each cell; it fails
+    /// where there is none.
     pub fn new(alloc: Global, cells: &[CellId]) -> Result<Tournament, NoMemory>
-        requires { length cells.now ≤ 2 ^ 18 }
+        requires few { length cells.now ≤ 2 ^ 18 }
+        requires small { All (λ cell. cell.0 < 2 ^ 18) cells.now }
         ensures { IfOk result (λ tournament. tournament ≡ map unkeyed cells.now) }
     {
-        let mut nodes = seats(alloc, cells)?;
-        play(&mut nodes, cells.len());
-        Ok(Tournament {
-            slots: cells.len(),
-            nodes,
-        })
+        let inner = (cells.len() + 1) / (PLAYERS - 1);
+        let mut nodes = seats(alloc, cells, inner)?;
+        play(&mut nodes, inner);
+        Ok(Tournament { inner, nodes })
     }
 
     /// The number of slots.
     pub fn len(&self) -> usize
         ensures { result ≡ length self.now }
     {
-        self.slots
+        self.nodes.len() - self.inner
     }
 
     /// The cell of a slot.
@@ -67,7 +68,7 @@ impl Tournament {
         requires { slot < length self.now }
         ensures { result ≡ (leader_at self.now slot).cell }
     {
-        self.nodes[self.slots + slot].cell
+        leader_with(self.nodes[self.inner + slot]).cell
     }
 
     /// Gives a slot another key.
@@ -75,17 +76,17 @@ impl Tournament {
         requires { slot < length self.old }
         ensures { self.new ≡ rekeyed self.old slot key }
     {
-        rekey(&mut self.nodes, self.slots, slot, key);
+        rekey(&mut self.nodes, self.inner, slot, key);
     }
 
     /// The best of all slots; none where there are none.
     pub fn leader(&self) -> Option<Leader>
         ensures { IsBestSlot self.now (length self.now) result }
     {
-        if self.slots == 0 {
+        if self.nodes.is_empty() {
             return None;
         }
-        Some(self.nodes[1])
+        Some(leader_with(self.nodes[0]))
     }
 
     /// The best of the first `count` slots; none where that is 0.
@@ -93,10 +94,13 @@ impl Tournament {
         requires { count ≤ length self.now }
         ensures { IsBestSlot self.now count result }
     {
+        if count == self.len() {
+            return self.leader();
+        }
         if count == 0 {
             return None;
         }
-        Some(best_of(&self.nodes, self.slots, count))
+        Some(leader_with(best_of(&self.nodes, self.inner, count)))
     }
 }
 
@@ -111,78 +115,142 @@ pub fn winner(one: Leader, other: Leader) -> Leader
     }
 }
 
-// The cells, each with key 0, in the second half of a list.
-fn seats(alloc: Global, cells: &[CellId]) -> Result<Vec<Leader>, NoMemory>
-    requires { length cells.now ≤ 2 ^ 18 }
-    ensures { IfOk result (λ nodes. nodes.items ≡ replicate (length cells.now) nobody ++ map unkeyed cells.now) }
+// The leader with a rank.
+fn leader_with(rank: u64) -> Leader
+    requires { rank < 2 ^ 50 }
+    ensures { result ≡ leader_of rank }
 {
-    let mut nodes = Vec::with_capacity(alloc, 2 * cells.len())?;
-    nodes.resize(cells.len(), NOBODY)?;
+    Leader {
+        cell: CellId((CELLS - 1 - rank % CELLS) as u32),
+        key: (rank / CELLS) as u32,
+    }
+}
+
+// The ranks of the cells, each with key 0, behind so many nodes that are not played yet.
+fn seats(alloc: Global, cells: &[CellId], inner: usize) -> Result<Vec<u64>, NoMemory>
+    requires few { length cells.now ≤ 2 ^ 18 }
+    requires small { All (λ cell. cell.0 < 2 ^ 18) cells.now }
+    requires inner { inner ≤ 2 ^ 18 }
+    ensures { IfOk result (λ nodes. nodes.items ≡ replicate inner 0 ++ map unkeyed_rank cells.now) }
+{
+    let mut nodes = Vec::with_capacity(alloc, inner + cells.len())?;
+    nodes.resize(inner, 0)?;
     for cell in cells {
-        nodes.push(Leader {
-            cell: *cell,
-            key: 0,
-        })?;
+        nodes.push(CELLS - 1 - u64::from(cell.0))?;
     }
     Ok(nodes)
 }
 
 // Plays all matches, the last nodes first.
-fn play(nodes: &mut [Leader], slots: usize)
-    requires { length nodes.old ≡ slots + slots }
-    ensures tree { IsTree slots nodes.new }
-    ensures leaves { drop slots nodes.new ≡ drop slots nodes.old }
+fn play(nodes: &mut [u64], inner: usize)
+    requires { IsLaidOut inner nodes.old }
+    ensures tree { IsTree inner nodes.new }
+    ensures leaves { drop inner nodes.new ≡ drop inner nodes.old }
 {
-    for node in (1..slots).rev() {
-        nodes[node] = winner(nodes[2 * node], nodes[2 * node + 1]);
+    for node in (0..inner).rev() {
+        nodes[node] = greatest(nodes, node);
     }
 }
 
-// Gives a slot another key and plays its matches again.
-fn rekey(nodes: &mut [Leader], slots: usize, slot: usize, key: u32)
-    requires tree { IsTree slots nodes.old }
-    requires slot { slot < slots }
-    ensures tree { IsTree slots nodes.new }
-    ensures leaves { drop slots nodes.new ≡ rekeyed (drop slots nodes.old) slot key }
+// The greatest of the nodes below a node.
+fn greatest(nodes: &[u64], node: usize) -> u64
+    requires { 4 * node + 1 < length nodes.now }
+    ensures { IsGreatest nodes.now node result }
 {
-    let leaf = slots + slot;
-    nodes[leaf].key = key;
-    replay(nodes, slots, leaf);
+    most(nodes, PLAYERS * node + 1, nodes.len() - 1)
 }
 
-// Plays the matches of a changed node again, up to the first whose winner stays.
-fn replay(nodes: &mut [Leader], slots: usize, changed: usize)
-    requires tree { IsTreeBut slots nodes.old (changed / 2) }
-    requires node { changed < slots + slots }
-    ensures tree { IsTree slots nodes.new }
-    ensures leaves { drop slots nodes.new ≡ drop slots nodes.old }
+// The greatest of four nodes at most, those from `start` on and up to `last`. It has no branch: where there are fewer, the last one
+// is asked again.
+fn most(nodes: &[u64], start: usize, last: usize) -> u64
+    requires order { start ≤ last }
+    requires inside { last < length nodes.now }
+    ensures { IsMost nodes.now start last result }
 {
-    let mut node = changed;
-    while node > 1 {
-        node /= 2;
-        let best = winner(nodes[2 * node], nodes[2 * node + 1]);
-        if nodes[node] == best {
+    let second = (start + 1).min(last);
+    let third = (start + 2).min(last);
+    let fourth = (start + 3).min(last);
+    let early = nodes[start].max(nodes[second]);
+    let late = nodes[third].max(nodes[fourth]);
+    early.max(late)
+}
+
+// Gives a slot another key and plays its matches again.
+fn rekey(nodes: &mut [u64], inner: usize, slot: usize, key: u32)
+    requires tree { IsTree inner nodes.old }
+    requires slot { inner + slot < length nodes.old }
+    ensures tree { IsTree inner nodes.new }
+    ensures leaves { map leader_of (drop inner nodes.new) ≡ rekeyed (map leader_of (drop inner nodes.old)) slot key }
+{
+    let leaf = inner + slot;
+    let held = nodes[leaf];
+    nodes[leaf] = u64::from(key) * CELLS + held % CELLS;
+    replay(nodes, inner, leaf, held);
+}
+
+// Plays the matches above a changed node again, up to the first whose winner stays.
+fn replay(nodes: &mut [u64], inner: usize, mut node: usize, mut held: u64)
+    requires { IsWaiting inner nodes.old node held }
+    ensures tree { IsTree inner nodes.new }
+    ensures leaves { drop inner nodes.new ≡ drop inner nodes.old }
+{
+    while node > 0 {
+        let above = (node - 1) / PLAYERS;
+        let best = winner_above(nodes, inner, node, held);
+        held = nodes[above];
+        if best == held {
             return;
         }
-        nodes[node] = best;
+        nodes[above] = best;
+        node = above;
+    }
+}
+
+// The winner of the match that a changed node plays in. Where it was the best of them and is so no more, all are asked.
+fn winner_above(nodes: &[u64], inner: usize, node: usize, held: u64) -> u64
+    requires waiting { IsWaiting inner nodes.now node held }
+    requires below { 0 < node }
+    ensures { IsGreatest nodes.now ((node - 1) / 4) result }
+{
+    let above = (node - 1) / PLAYERS;
+    let best = nodes[above];
+    let rank = nodes[node];
+    if rank >= best {
+        rank
+    } else if held < best {
+        best
+    } else {
+        greatest(nodes, above)
     }
 }
 
 // The best of the first slots. The nodes from `low` on and below `high` stand for slots that are still to be asked: the outermost
-// of them are asked at each turn, and the parents of the others stand for them at the next.
-fn best_of(nodes: &[Leader], slots: usize, count: usize) -> Leader
-    requires tree { IsTree slots nodes.now }
+// of them are asked at each turn, and the nodes above the others stand for them at the next.
+fn best_of(nodes: &[u64], inner: usize, count: usize) -> u64
+    requires tree { IsTree inner nodes.now }
     requires some { 0 < count }
-    requires within { count ≤ slots }
-    ensures { IsBest (drop slots nodes.now) count result }
+    requires within { inner + count < length nodes.now }
+    ensures { IsTop inner nodes.now count result }
 {
-    let mut best = nodes[slots];
-    let mut low = slots;
-    let mut high = slots + count;
+    let mut best = nodes[inner];
+    let mut low = inner;
+    let mut high = inner + count;
     while low < high {
-        best = winner(best, winner(nodes[low], nodes[high - 1]));
-        low = (low + 1) / 2;
-        high /= 2;
+        best = best.max(outermost(nodes, low, high));
+        low = (low - 1) / PLAYERS + 1;
+        high = (high - 2) / PLAYERS;
     }
     best
+}
+
+// The greatest of the first four and the last four of the nodes from `low` on and below `high`: among them are all that play with the
+// first or with the last.
+fn outermost(nodes: &[u64], low: usize, high: usize) -> u64
+    requires less { low < high }
+    requires within { high ≤ length nodes.now }
+    ensures { IsOuter nodes.now low high result }
+{
+    let last = high - 1;
+    let start = high.saturating_sub(PLAYERS).max(low);
+    most(nodes, low, last).max(most(nodes, start, last))
 }

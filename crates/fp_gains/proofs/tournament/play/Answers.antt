@@ -5,6 +5,6 @@ use Rattle.fp_gains.proofs.tournament.play.Goals as goal
 
 pub loop-node-preserved : goal.loop-node-preserved
 loop-node-preserved c = (
-  played_more c.args.slots c.loop-node.nodes _ c.loop-node.node c.winner.result c.loop-node.invariant.0 (omega arith) (omega arith) (omega arith) c.winner.ensures,
-  drop-set-lt c.args.slots c.loop-node.nodes _ _ (omega arith) ∙ c.loop-node.invariant.1,
+  played_more c.args.inner c.loop-node.nodes _ c.loop-node.node c.greatest.result c.loop-node.invariant.0 (omega arith) (omega arith) c.greatest.ensures,
+  drop-set-lt c.args.inner c.loop-node.nodes _ _ (omega arith) ∙ c.loop-node.invariant.1,
 )

@@ -3,4 +3,4 @@ use Rattle.fp_gains.proofs.TournamentLemmas.{ArePlayed}
 use Rattle.fp_gains.proofs.tournament.play.Given as goal
 
 abbrev pub invariant-loop-node : goal.invariant-loop-node
-invariant-loop-node l = ArePlayed l.slots l.nodes l.node × (drop l.slots l.nodes ≡ drop l.slots l.initial.nodes)
+invariant-loop-node l = ArePlayed l.inner l.nodes l.node × (drop l.inner l.nodes ≡ drop l.inner l.initial.nodes)

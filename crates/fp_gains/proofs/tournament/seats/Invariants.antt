@@ -1,6 +1,6 @@
-use Rattle.std.proofs.Common.{◌≡◌, ◌++◌, length, map, replicate, take}
-use Rattle.fp_gains.specs.Contests.{nobody, unkeyed}
+use Rattle.std.proofs.Common.{◌≡◌, ◌++◌, map, replicate, take}
+use Rattle.fp_gains.specs.Contests.{unkeyed_rank}
 use Rattle.fp_gains.proofs.tournament.seats.Given as goal
 
 abbrev pub invariant-loop-cell : goal.invariant-loop-cell
-invariant-loop-cell l = l.nodes.items ≡ replicate (length l.cells) nobody ++ map unkeyed (take l.cell-index l.cells)
+invariant-loop-cell l = l.nodes.items ≡ replicate l.inner 0 ++ map unkeyed_rank (take l.cell-index l.cells)

@@ -1,4 +1,6 @@
-use Rattle.std.proofs.Common.{◌≡◌, ◌∙◌, length, map, sym, ap, subst, arith}
+use Rattle.std.proofs.Common.{◌≡◌, ◌<◌, ◌∙◌, length, map, get_or, sym, ap, subst, arith}
+use Rattle.std.specs.List.{All}
+use Rattle.fp_base.specs.declared.ids.CellId.{CellId}
 use Rattle.fp_gains.specs.Contests.{unkeyed}
 use Rattle.fp_gains.specs.Ordered.{IsNewOrder}
 use Rattle.fp_gains.specs.OrderParts.{number_of, HoldPlaces, AreSlots, order_as}
@@ -9,8 +11,13 @@ use Rattle.fp_gains.proofs.order.Order.new.Goals.{In_ok-tournament}
 pub slots_of-requires-clause-few : goal.slots_of-requires-clause-few
 slots_of-requires-clause-few c = omega (arith, c.in_ok-cells.ensures.few, ap length c.deref.ensures.value, c.cells.ensures.sound.few_cells)
 
-pub new-requires : goal.new-requires
-new-requires c = omega (arith, c.in_ok-cells.ensures.few, ap length c.deref-2.ensures.value, c.cells.ensures.sound.few_cells)
+pub new-requires-clause-few : goal.new-requires-clause-few
+new-requires-clause-few c = omega (arith, c.in_ok-cells.ensures.few, ap length c.deref-2.ensures.value, c.cells.ensures.sound.few_cells)
+
+pub new-requires-clause-small : goal.new-requires-clause-small
+new-requires-clause-small c =
+    subst (All (λ (cell : CellId). cell.0 < 262144)) (sym c.deref-2.ensures.value)
+    (λ i default below. let less : (get_or c.in_ok-cells.cells.items i default).0 < length c.args.problem.now.cells = c.in_ok-cells.ensures.within i default below in omega (arith, less, c.cells.ensures.sound.few_cells))
 
 slots : (c : In_ok-tournament) → AreSlots (length c.args.problem.now.cells) c.in_ok-slots.slots.items c.in_ok-cells.cells.items (length c.in_ok-cells.cells.items)
 slots c =
