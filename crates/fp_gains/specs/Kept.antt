@@ -71,6 +71,15 @@ pub record AreShown (dies : List Die) (locked : List Bool) (r : Ranks) : Type 0 
   pub top : (cell : ℕ) → cell < length dies → Shows dies locked r.keys.items Top r.top cell
   pub bottom : (cell : ℕ) → cell < length dies → Shows dies locked r.keys.items Bottom r.bottom cell
 
+-- no order shows a cell; the order of a die does not show it
+abbrev pub IsHiddenNear : Ranks → Die → ℕ → Type 0
+IsHiddenNear r Top cell = key_of r.top cell ≡ 0
+IsHiddenNear r Bottom cell = key_of r.bottom cell ≡ 0
+
+pub record IsHidden (r : Ranks) (cell : ℕ) : Type 0 where
+  pub top : key_of r.top cell ≡ 0
+  pub bottom : key_of r.bottom cell ≡ 0
+
 -- orders that are of every problem that others are of
 pub record Follow (old new : Ranks) : Type 0 where
   pub top : (p : Netlist) → IsOrderOf p Top old.top → IsOrderOf p Top new.top

@@ -1,10 +1,11 @@
 //! The keys of the cells, in the orders of both dies.
 
-ghost use Rattle.std.specs.Prelude.{◌≡◌, ℕ, ◌<◌, ◌==◌, All, false, length, set, if◌then◌else◌};
+ghost use Rattle.std.specs.Prelude.{◌≡◌, ℕ, ◌<◌, ◌==◌, All, true, false, length, set, if◌then◌else◌};
 ghost use Rattle.std.specs.List.{IsDistinct};
 ghost use Rattle.fp_base.specs.declared.ids.Die.TheVariants.{Top, Bottom};
+ghost use Rattle.fp_place.specs.Places.{die_at};
 ghost use Rattle.fp_place.specs.Settled.{is_moved};
-ghost use Rattle.fp_gains.specs.Kept.{free_key, is_free, AreShownBut, AreShown, Follow};
+ghost use Rattle.fp_gains.specs.Kept.{free_key, is_free, IsHidden, IsHiddenNear, AreShownBut, AreShown, Follow};
 ghost use Rattle.fp_gains.specs.Changes.{AreReweighed, AreInRange};
 
 use crate::order::Order;
@@ -24,8 +25,8 @@ pub struct Ranks {
 pub const EVEN: u32 = (1 << 21) + 1;
 
 impl Ranks {
-    /// Sets the key of a cell, and shows it.
-    pub fn set(&mut self, dies: &[Die], locked: &[bool], cell: CellId, key: u32)
+    // Sets the key of a cell, and shows it in both orders.
+    fn set(&mut self, dies: &[Die], locked: &[bool], cell: CellId, key: u32)
         requires cell { cell.0 < length dies.now }
         requires shown { AreShownBut cell.0 dies.now locked.now self.old }
         ensures keys { self.new.keys.items ≡ set self.old.keys.items cell.0 key }
@@ -39,7 +40,40 @@ impl Ranks {
             .set(cell, free_key(dies, locked, key, Die::Bottom, cell));
     }
 
-    // Sets the key of a cell, and shows it in the order of the die that it would move to.
+    /// Sets the key of a cell that has moved, and shows it. Where it is locked, no order shows it, before or after.
+    pub fn turn(&mut self, dies: &[Die], locked: &[bool], cell: CellId, key: u32)
+        requires cell { cell.0 < length dies.now }
+        requires shown { AreShownBut cell.0 dies.now locked.now self.old }
+        requires hidden { is_moved locked.now cell.0 ≡ true → IsHidden self.old cell.0 }
+        ensures keys { self.new.keys.items ≡ set self.old.keys.items cell.0 key }
+        ensures shown { AreShown dies.now locked.now self.new }
+        ensures follow { Follow self.old self.new }
+    {
+        if locked[cell.0 as usize] {
+            self.keys[cell.0 as usize] = key;
+        } else {
+            self.set(dies, locked, cell, key);
+        }
+    }
+
+    /// Shows a cell that was locked or unlocked. The order of the die that it stands on has nothing to show of it.
+    pub fn show(&mut self, dies: &[Die], locked: &[bool], cell: CellId)
+        requires cell { cell.0 < length dies.now }
+        requires shown { AreShownBut cell.0 dies.now locked.now self.old }
+        requires near { IsHiddenNear self.old (die_at dies.now cell.0) cell.0 }
+        ensures keys { self.new.keys ≡ self.old.keys }
+        ensures shown { AreShown dies.now locked.now self.new }
+        ensures follow { Follow self.old self.new }
+    {
+        let place = cell.0 as usize;
+        let key = if locked[place] { 0 } else { self.keys[place] };
+        match dies[place] {
+            Die::Top => self.bottom.set(cell, key),
+            Die::Bottom => self.top.set(cell, key),
+        }
+    }
+
+    // Sets the key of a cell that is free and stays where it is, and shows it in the order of the die that it would move to.
     fn set_far(&mut self, dies: &[Die], locked: &[bool], cell: CellId, key: u32)
         requires cell { cell.0 < length dies.now }
         requires free { is_moved locked.now cell.0 ≡ false }

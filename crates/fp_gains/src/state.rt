@@ -73,7 +73,7 @@ impl State {
         let key = 2 * EVEN - self.ranks.keys[place];
         self.turn_nets(members, nets.list(place), die);
         self.dies[place] = other(die);
-        self.ranks.set(&self.dies, &self.locked, cell, key);
+        self.ranks.turn(&self.dies, &self.locked, cell, key);
     }
 
     /// Locks or unlocks a cell.
@@ -84,9 +84,11 @@ impl State {
         ensures locked { self.new.locked.items ≡ set self.old.locked.items cell.0 lock }
         ensures lies { Lies self.old self.new }
     {
+        if self.locked[cell.0 as usize] == lock {
+            return;
+        }
         self.locked[cell.0 as usize] = lock;
-        let key = self.ranks.keys[cell.0 as usize];
-        self.ranks.set(&self.dies, &self.locked, cell, key);
+        self.ranks.show(&self.dies, &self.locked, cell);
     }
 
     /// Locks or unlocks every cell.

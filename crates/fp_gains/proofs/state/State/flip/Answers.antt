@@ -33,6 +33,6 @@ returns-clause-kept c =
       stands = c.turn_nets.ensures.stands;
       dies = ap (λ dies. set dies c.args.cell.0 c.other.result) (ap (λ dies. dies.items) c.turn_nets.ensures.stands.dies) ∙ ap (set c.args.self.now.dies.items c.args.cell.0) other_is;
       sides = refl;
-      keys = c.set.ensures.keys ∙ ap (λ key. set c.turn_nets.new.self.ranks.keys.items c.args.cell.0 (2 * even - key)) key_is;
-      shown = subst (λ locked. AreShown (set c.turn_nets.new.self.dies.items c.args.cell.0 c.other.result) locked c.set.new.self) c.deref-2.ensures.value (subst (λ dies. AreShown dies c.deref-2.result.now c.set.new.self) c.deref.ensures.value c.set.ensures.shown);
+      keys = c.turn.ensures.keys ∙ ap (λ key. set c.turn_nets.new.self.ranks.keys.items c.args.cell.0 (2 * even - key)) key_is;
+      shown = subst (λ locked. AreShown (set c.turn_nets.new.self.dies.items c.args.cell.0 c.other.result) locked c.turn.new.self) c.deref-2.ensures.value (subst (λ dies. AreShown dies c.deref-2.result.now c.turn.new.self) c.deref.ensures.value c.turn.ensures.shown);
     })
