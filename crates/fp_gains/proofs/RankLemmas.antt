@@ -6,11 +6,10 @@ use Rattle.std.proofs.lemmas.Bool.Decides.{nat_tests}
 use Rattle.fp_base.specs.declared.ids.Die.{Die}
 use Rattle.fp_base.specs.declared.ids.Die.TheVariants.{Top, Bottom}
 use Rattle.fp_place.specs.Places.{die_at}
-use Rattle.fp_gains.specs.declared.sides.Rises.{Rises}
 use Rattle.fp_gains.specs.declared.sides.Sides.{Sides}
 use Rattle.fp_gains.specs.declared.ranks.Ranks.{Ranks}
 use Rattle.fp_gains.specs.Links.{holds}
-use Rattle.fp_gains.specs.Sides.{share, rise_of, AreRises}
+use Rattle.fp_gains.specs.Sides.{share}
 use Rattle.fp_gains.specs.Kept.{free_key, AreShown, AreShownBut, Follow}
 use Rattle.fp_gains.specs.Changes.{AreInRange, part, AreReweighed}
 use Rattle.fp_gains.proofs.HoldLemmas.{holds_more, not_before, same_true}
@@ -55,15 +54,6 @@ key_read dies cells before after old now i key are once within range many less r
     let waits_is = waits dies cells before after old now i are once less there in
     let r = range (get_or cells i 0) (omega arith) in
     record { is = is; low = omega (arith, r.0, waits_is); high = omega (arith, r.1, waits_is) }
-
--- what a change adds to a key
-pub record IsRise (die : Die) (before after : Sides) (rise : ℕ) : Type 0 where
-  pub is : rise + share die before ≡ share die after + 2
-  pub small : rise ≤ 4
-
-pub rise_is : (before after : Sides) (rises : Rises) (die : Die) → AreRises before after rises → IsRise die before after (rise_of rises die)
-rise_is before after rises Top are = record { is = are.top; small = are.top_small }
-rise_is before after rises Bottom are = record { is = are.bottom; small = are.bottom_small }
 
 abbrev pub IsReweighedAt : List Die → List ℕ → Sides → Sides → List ℕ → List ℕ → ℕ → Type 0
 IsReweighedAt dies cells before after old new c = get_or new c 0 + part dies cells before c ≡ get_or old c 0 + part dies cells after c

@@ -1,10 +1,9 @@
 -- How many cells of a net stand on each die, and what a net adds to the gain of a cell, after Fiduccia and Mattheyses.
-use Rattle.std.specs.Prelude.{◌≡◌, ℕ, ◌≤◌, ◌+◌, ◌-◌, ◌&&◌, nat_lt, if◌then◌else◌, List}
+use Rattle.std.specs.Prelude.{ℕ, ◌+◌, ◌-◌, ◌&&◌, nat_lt, if◌then◌else◌, List}
 use Rattle.std.specs.List.{count_by}
 use Rattle.fp_base.specs.declared.ids.Die.{Die}
 use Rattle.fp_base.specs.declared.ids.Die.TheVariants.{Top, Bottom}
 use Rattle.fp_place.specs.Places.{die_at, same_die}
-use Rattle.fp_gains.specs.declared.sides.Rises.{Rises}
 use Rattle.fp_gains.specs.declared.sides.Sides.{Sides}
 
 abbrev pub count_on : Sides → Die → ℕ
@@ -38,14 +37,3 @@ share_by here there = (if nat_lt 0 there then 1 else 0) + (if nat_lt 1 here then
 abbrev pub share : Die → Sides → ℕ
 share Top sides = share_by sides.top sides.bottom
 share Bottom sides = share_by sides.bottom sides.top
-
--- what a change of the numbers adds to the key of a member on a die, and 2 more
-abbrev pub rise_of : Rises → Die → ℕ
-rise_of rises Top = rises.top
-rise_of rises Bottom = rises.bottom
-
-pub record AreRises (before after : Sides) (rises : Rises) : Type 0 where
-  pub top : rises.top + share Top before ≡ share Top after + 2
-  pub bottom : rises.bottom + share Bottom before ≡ share Bottom after + 2
-  pub top_small : rises.top ≤ 4
-  pub bottom_small : rises.bottom ≤ 4

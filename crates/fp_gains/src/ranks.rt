@@ -9,7 +9,7 @@ ghost use Rattle.fp_gains.specs.Kept.{free_key, is_free, IsHidden, IsHiddenNear,
 ghost use Rattle.fp_gains.specs.Changes.{AreReweighed, AreInRange};
 
 use crate::order::Order;
-use crate::sides::{NO_RISE, Rises, Sides};
+use crate::sides::Sides;
 use fp_base::{CellId, Die};
 
 /// A key for each cell, which rises with its gain, and for each die an order that shows the keys of the cells that are free to move
@@ -122,10 +122,9 @@ impl Ranks {
         ensures shown { AreShown dies.now locked.now self.new }
         ensures follow { Follow self.old self.new }
     {
-        let rises = Rises::between(before, after);
         for cell in cells {
-            let place = *cell as usize;
-            let key = self.keys[place] + rises.of(dies[place]) - NO_RISE;
+            let die = dies[*cell as usize];
+            let key = self.keys[*cell as usize] + after.share(die) - before.share(die);
             self.change(dies, locked, CellId(*cell), key);
         }
     }

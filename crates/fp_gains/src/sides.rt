@@ -2,7 +2,7 @@
 
 ghost use Rattle.std.specs.Prelude.{◌≡◌, ◌<◌, ◌≤◌, ◌^◌, ◌+◌, All, IsTrue, length};
 ghost use Rattle.fp_base.specs.declared.ids.Die.TheVariants.{Top, Bottom};
-ghost use Rattle.fp_gains.specs.Sides.{count_on, on_die, sides_of, moved, share_by, share, rise_of, AreRises};
+ghost use Rattle.fp_gains.specs.Sides.{count_on, on_die, sides_of, moved, share_by, share};
 
 use fp_base::Die;
 
@@ -65,38 +65,6 @@ impl Sides {
     {
         self.share(Die::Top) == other.share(Die::Top)
             && self.share(Die::Bottom) == other.share(Die::Bottom)
-    }
-}
-
-/// What a change of a net's numbers of cells adds to the key of a member that stands on the top or the bottom die, and 2 more.
-#[derive(Clone, Copy)]
-pub struct Rises {
-    top: u32,
-    bottom: u32,
-}
-
-/// What is added where nothing changes.
-pub const NO_RISE: u32 = 2;
-
-impl Rises {
-    /// From some numbers to others.
-    pub fn between(before: Sides, after: Sides) -> Rises
-        ensures { AreRises before after result }
-    {
-        Rises {
-            top: after.share(Die::Top) + NO_RISE - before.share(Die::Top),
-            bottom: after.share(Die::Bottom) + NO_RISE - before.share(Die::Bottom),
-        }
-    }
-
-    /// For a member that stands on the die.
-    pub fn of(self, die: Die) -> u32
-        ensures { result ≡ rise_of self die }
-    {
-        match die {
-            Die::Top => self.top,
-            Die::Bottom => self.bottom,
-        }
     }
 }
 
