@@ -5,7 +5,7 @@ use Rattle.fp_gains.specs.Ordered.{Ordered}
 use Rattle.fp_gains.specs.OrderParts.{number_of, order_as, HoldPlaces}
 
 abbrev pub ordered_kept : Inside → Ordered
-ordered_kept o = order_as o.die o.slots.items o.tournament
+ordered_kept o = order_as o.die o.slots o.tournament
 
 abbrev pub HoldsSlots : Inside → Type 0
-HoldsSlots o = HoldPlaces o.slots.items (map number_of o.tournament) (length o.tournament)
+HoldsSlots o = HoldPlaces o.slots (map number_of o.tournament) (length o.tournament)

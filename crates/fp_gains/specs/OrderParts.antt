@@ -1,5 +1,5 @@
 -- How cells are put in order, and the places that cells and slots name.
-use Rattle.std.specs.Prelude.{◌≡◌, ◌≢◌, ℕ, ◌<◌, ◌≤◌, true, false, IsTrue, List, length, map, All, AllPairs, Contains, get_or, Option, Some, None}
+use Rattle.std.specs.Prelude.{◌≡◌, ◌≢◌, ◌==◌, ℕ, if◌then◌else◌, ◌<◌, ◌≤◌, true, false, IsTrue, List, length, map, All, AllPairs, Contains, get_or, Option, Some, None}
 use Rattle.std.specs.List.Sorted.{IsNonDecreasingBy}
 use Rattle.fp_base.specs.declared.ids.CellId.{CellId}
 use Rattle.fp_base.specs.declared.ids.Die.{Die}
@@ -18,6 +18,10 @@ number_of leader = leader.cell.0
 abbrev pub key_in : List Leader → Option ℕ → ℕ
 key_in leaves None = 0
 key_in leaves (Some slot) = (leader_at leaves slot).key
+
+-- a place as it is kept: the greatest number of 32 bits is none
+abbrev pub place_of : ℕ → Option ℕ
+place_of number = if number == 4294967295 then None else Some number
 
 -- the first so many cells and their places name each other
 pub record HoldPlaces (places : List (Option ℕ)) (cells : List ℕ) (count : ℕ) : Type 0 where

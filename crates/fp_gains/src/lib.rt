@@ -6,6 +6,7 @@ mod gains;
 mod links;
 mod lists;
 mod order;
+mod places;
 mod ranks;
 mod sides;
 mod state;

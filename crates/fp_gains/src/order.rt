@@ -8,6 +8,7 @@ ghost use Rattle.fp_gains.specs.Contests.{IsBestSlot};
 ghost use Rattle.fp_gains.specs.Ordered.{IsOrderOf, IsNewOrder, IsBestOf, with_key};
 ghost use Rattle.fp_gains.specs.OrderParts.{AreByArea, AreSlots, AreApart, AreAreas, IsBestWithRoom, IsRoomFor, cells_alone};
 
+use crate::places::Places;
 use crate::tournament::{Leader, Tournament};
 use fp_base::{CellId, Die, NoMemory};
 use fp_netlist::Problem;
@@ -21,7 +22,7 @@ use std::marker::Model;
 pub struct Order {
     die: Die,
     // By cell, its place in the order.
-    slots: Vec<Option<u32>>,
+    slots: Places,
     tournament: Tournament,
 }
 
@@ -56,7 +57,7 @@ impl Order {
         requires { cell.0 < length self.old.keys }
         ensures { self.new ≡ with_key self.old cell.0 key }
     {
-        if let Some(slot) = self.slots[cell.0 as usize] {
+        if let Some(slot) = self.slots.get(cell) {
             self.tournament.set(slot as usize, key);
         }
     }
@@ -125,15 +126,15 @@ fn cells_of(alloc: Global, entries: &[(u64, u32)]) -> Result<Vec<CellId>, NoMemo
 }
 
 // By cell, its place among these.
-fn slots_of(alloc: Global, count: u32, cells: &[CellId]) -> Result<Vec<Option<u32>>, NoMemory>
+fn slots_of(alloc: Global, count: u32, cells: &[CellId]) -> Result<Places, NoMemory>
     requires few { length cells.now ≤ 2 ^ 18 }
     requires within { All (λ cell. cell.0 < count) cells.now }
     requires apart { AreApart cells.now }
-    ensures { IfOk result (λ slots. AreSlots count slots.items cells.now (length cells.now)) }
+    ensures { IfOk result (λ slots. AreSlots count slots cells.now (length cells.now)) }
 {
-    let mut slots = vec![in alloc; None; count as usize]?;
+    let mut slots = Places::new(alloc, count)?;
     for (slot, cell) in cells.iter().enumerate() {
-        slots[cell.0 as usize] = Some(slot as u32);
+        slots.put(*cell, slot as u32);
     }
     Ok(slots)
 }

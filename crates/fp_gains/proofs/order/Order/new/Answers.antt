@@ -19,21 +19,21 @@ new-requires-clause-small c =
     subst (All (λ (cell : CellId). cell.0 < 262144)) (sym c.deref-2.ensures.value)
     (λ i default below. let less : (get_or c.in_ok-cells.cells.items i default).0 < length c.args.problem.now.cells = c.in_ok-cells.ensures.within i default below in omega (arith, less, c.cells.ensures.sound.few_cells))
 
-slots : (c : In_ok-tournament) → AreSlots (length c.args.problem.now.cells) c.in_ok-slots.slots.items c.in_ok-cells.cells.items (length c.in_ok-cells.cells.items)
+slots : (c : In_ok-tournament) → AreSlots (length c.args.problem.now.cells) c.in_ok-slots.slots c.in_ok-cells.cells.items (length c.in_ok-cells.cells.items)
 slots c =
-    subst (λ many. AreSlots many c.in_ok-slots.slots.items c.in_ok-cells.cells.items (length c.in_ok-cells.cells.items)) c.cells.ensures.count
-    (subst (λ cells. AreSlots c.cells.result c.in_ok-slots.slots.items cells (length cells)) c.deref.ensures.value c.in_ok-slots.ensures)
+    subst (λ many. AreSlots many c.in_ok-slots.slots c.in_ok-cells.cells.items (length c.in_ok-cells.cells.items)) c.cells.ensures.count
+    (subst (λ cells. AreSlots c.cells.result c.in_ok-slots.slots cells (length cells)) c.deref.ensures.value c.in_ok-slots.ensures)
 
 leaves : (c : In_ok-tournament) → c.in_ok-tournament.tournament ≡ map unkeyed c.in_ok-cells.cells.items
 leaves c = c.in_ok-tournament.ensures ∙ ap (map unkeyed) c.deref-2.ensures.value
 
 pub invariant_of-result : goal.invariant_of-result
 invariant_of-result c =
-    subst (λ tournament. HoldPlaces c.in_ok-slots.slots.items (map number_of tournament) (length tournament)) (sym (leaves c))
-    (places_new (length c.args.problem.now.cells) c.in_ok-slots.slots.items c.in_ok-cells.cells.items (slots c))
+    subst (λ tournament. HoldPlaces c.in_ok-slots.slots (map number_of tournament) (length tournament)) (sym (leaves c))
+    (places_new (length c.args.problem.now.cells) c.in_ok-slots.slots c.in_ok-cells.cells.items (slots c))
 
 pub returns : goal.returns
 returns c =
     let d = (goal.at.returns c).In_ok-tournament in
-    subst (λ tournament. IsNewOrder c.args.problem.now c.args.die (order_as c.args.die c.in_ok-slots.slots.items tournament)) (sym (leaves d))
-    (new_order c.args.problem.now c.args.die c.in_ok-cells.cells.items c.in_ok-slots.slots.items c.in_ok-cells.ensures (slots d))
+    subst (λ tournament. IsNewOrder c.args.problem.now c.args.die (order_as c.args.die c.in_ok-slots.slots tournament)) (sym (leaves d))
+    (new_order c.args.problem.now c.args.die c.in_ok-cells.cells.items c.in_ok-slots.slots c.in_ok-cells.ensures (slots d))
