@@ -140,12 +140,7 @@ fn slots_of(alloc: Global, count: u32, cells: &[CellId]) -> Result<Places, NoMem
 }
 
 // How many cells of the order have room on the die: they stand in front.
-fn count_with_room(
-    problem: &Problem,
-    caps: &Caps,
-    die: Die,
-    tournament: &Tournament,
-) -> usize
+fn count_with_room(problem: &Problem, caps: &Caps, die: Die, tournament: &Tournament) -> usize
     requires within { All (λ leaf. leaf.cell.0 < length problem.now.cells) tournament.now }
     requires rising { IsNonDecreasingBy (λ leaf. area problem.now leaf.cell.0 die) tournament.now }
     ensures { IsRoomFor problem.now caps.now die tournament.now result }

@@ -174,31 +174,34 @@ fn follow_flips(rt: &impl Abort, problem: &Problem, gains: &mut Gains) {
     }
 }
 
-// The best of the first slots, slot by slot.
-fn scan(leaves: &[Leader], count: usize) -> Option<Leader> {
-    let mut best: Option<Leader> = None;
-    for leaf in leaves.iter().take(count) {
-        best = match best {
-            Some(held) if (held.key, leaf.cell) > (leaf.key, held.cell) => Some(held),
-            _ => Some(*leaf),
-        };
-    }
-    best
+/// A cell with a key.
+fn leader(cell: u32, key: u32) -> Option<Leader> {
+    Some(Leader {
+        cell: CellId(cell),
+        key,
+    })
 }
 
 #[test]
-fn first_is_the_best_of_a_scan(rt: HostRuntime) -> Result<(), Fail> {
+fn first_is_the_best_of_a_front(rt: HostRuntime) -> Result<(), Fail> {
     let cells = [CellId(2), CellId(5), CellId(3), CellId(8), CellId(9)];
     let keys = [4, 7, 7, 1, 9];
+    let bests = [
+        None,
+        leader(2, 4),
+        leader(5, 7),
+        leader(3, 7),
+        leader(3, 7),
+        leader(9, 9),
+    ];
     let mut tournament = Tournament::new(rt.alloc(), &cells)?;
-    assert_eq!(rt; tournament.leaves().len(), 5);
     for (slot, key) in keys.iter().enumerate() {
-        assert!(rt; slot < tournament.leaves().len());
+        assert!(rt; slot < tournament.len());
         tournament.set(slot, *key);
     }
-    for count in 0..6 {
-        assert!(rt; count <= tournament.leaves().len());
-        assert_eq!(rt; tournament.first(count), scan(tournament.leaves(), count));
+    for (count, best) in bests.iter().enumerate() {
+        assert!(rt; count <= tournament.len());
+        assert_eq!(rt; tournament.first(count), *best);
     }
     Ok(())
 }
