@@ -1,18 +1,17 @@
 -- Gains as they begin: all cells locked and no cell of a net counted, then counted, then unlocked.
-use Rattle.std.proofs.Common.{◌≡◌, ℕ, zero, suc, ◌+◌, ◌<◌, Bool, true, false, not, ◌&&◌, List, [], ◌∷◌, length, replicate, map, get_or, if◌then◌else◌, refl, sym, ap, subst, ◌∙◌, arith}
+use Rattle.std.proofs.Common.{◌≡◌, ℕ, zero, suc, ◌<◌, Bool, true, false, not, ◌&&◌, List, [], ◌∷◌, length, replicate, map, get_or, if◌then◌else◌, refl, sym, ap, subst, ◌∙◌, arith}
 use Rattle.std.proofs.lemmas.List.{length-replicate, get_or-replicate}
 use Rattle.fp_base.specs.declared.ids.Die.{Die}
 use Rattle.fp_base.specs.declared.ids.Die.TheVariants.{Top, Bottom}
-use Rattle.fp_netlist.specs.Netlist.{Netlist, IsSound}
+use Rattle.fp_netlist.specs.Netlist.{Netlist}
 use Rattle.fp_place.specs.Places.{die_at, same_die}
-use Rattle.fp_place.specs.Settled.{is_moved, none_moved}
+use Rattle.fp_place.specs.Settled.{is_moved}
 use Rattle.fp_gains.specs.declared.state.State.{State}
-use Rattle.fp_gains.specs.Links.{AreCellsByNet, AreNetsByCell, AreMembers, AreLinks}
+use Rattle.fp_gains.specs.Links.{AreCellsByNet, AreMembers, AreLinks}
 use Rattle.fp_gains.specs.Sides.{no_sides}
 use Rattle.fp_gains.specs.Ordered.{Ordered, is_in, key_of, IsNewOrder}
-use Rattle.fp_gains.specs.Kept.{even, shares, degree, free_key, Shows, AreShown, AreCounted, IsStart, IsLaid, IsRanked, IsKept}
+use Rattle.fp_gains.specs.Kept.{even, shares, degree, free_key, Shows, AreCounted, IsStart, IsLaid, IsRanked, IsKept}
 use Rattle.fp_gains.proofs.WeightLemmas.{shares_none}
-use Rattle.fp_gains.proofs.LinkLemmas.{members_of_problem, links_of_problem}
 
 -- a locked cell is shown nowhere
 shows_none : (dies : List Die) (locked : List Bool) (keys : List ℕ) (die : Die) (o : Ordered) (cell : ℕ) → is_moved locked cell ≡ true → key_of o cell ≡ 0 → Shows dies locked keys die o cell

@@ -1,4 +1,4 @@
-use Rattle.std.proofs.Common.{◌≡◌, length, map, replicate, false, true, ap, sym, subst, ◌∙◌, arith}
+use Rattle.std.proofs.Common.{length, map, replicate, false, true, ap, sym, subst, ◌∙◌, arith}
 use Rattle.fp_gains.specs.Links.{AreMembers}
 use Rattle.fp_gains.proofs.LinkLemmas.{members_of_problem, links_of_problem}
 use Rattle.fp_gains.proofs.NewLemmas.{start_ranked, ranked_kept, all_one}

@@ -1,8 +1,6 @@
-use Rattle.std.proofs.Common.{◌∙◌, ◌<◌, length, None, sym, subst}
-use Rattle.std.specs.List.{All}
-use Rattle.fp_gains.specs.declared.tournament.Leader.{Leader}
-use Rattle.fp_gains.specs.OrderParts.{IsRoomFor, IsBestRoomy, IsBestWithRoom}
-use Rattle.fp_gains.proofs.OrderLemmas.{IsHeldOrder, AreRising, held_order, leader_within, leader_roomy, leaves_within, leaves_rise, all_slots, none_roomy, front_best}
+use Rattle.std.proofs.Common.{◌∙◌, length, None, sym, subst}
+use Rattle.fp_gains.specs.OrderParts.{IsBestRoomy, IsBestWithRoom}
+use Rattle.fp_gains.proofs.OrderLemmas.{IsHeldOrder, held_order, leader_within, leader_roomy, leaves_within, leaves_rise, all_slots, none_roomy, front_best}
 use Rattle.fp_gains.proofs.order.Order.best_with_room.Goals as goal
 use Rattle.fp_gains.proofs.order.Order.best_with_room.Goals.{After-leader}
 
