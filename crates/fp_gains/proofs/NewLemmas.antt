@@ -41,6 +41,7 @@ laid_ranked members dies nets s is same = record {
     all_locks = ap length is.locked ∙ length-replicate (length dies) true ∙ sym many;
     all_top = is.all_top ∙ sym many;
     all_bottom = is.all_bottom ∙ sym many;
+    all_listed = is.all_listed ∙ sym many;
     top = λ cell less. shows_none s.dies.items s.locked.items s.ranks.keys.items Top s.ranks.top cell (all_locked cell less) (is.top_none cell (omega (arith, many)));
     bottom = λ cell less. shows_none s.dies.items s.locked.items s.ranks.keys.items Bottom s.ranks.bottom cell (all_locked cell less) (is.bottom_none cell (omega (arith, many)));
   };
@@ -67,6 +68,7 @@ start_laid p dies s is cells = record {
   keys = is.keys;
   all_top = is.top.order.keys ∙ sym cells;
   all_bottom = is.bottom.order.keys ∙ sym cells;
+  all_listed = is.listed;
   top_none = λ cell less. no_key p Top s.ranks.top is.top cell (omega (arith, cells));
   bottom_none = λ cell less. no_key p Bottom s.ranks.bottom is.bottom cell (omega (arith, cells));
 }

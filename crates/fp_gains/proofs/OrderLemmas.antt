@@ -1,5 +1,5 @@
 -- An order kept by places and a tournament: how many cells have room, setting a key, and the best cell.
-use Rattle.std.proofs.Common.{◌≡◌, ◌≢◌, ℕ, ◌<◌, ◌≤◌, ◌⊎◌, inl, inr, true, false, cond, IsTrue, List, length, map, get_or, set, length-set, replicate, Option, Some, None, is_some, refl, sym, ap, subst, ◌∙◌, arith}
+use Rattle.std.proofs.Common.{◌≡◌, ◌≢◌, ℕ, ◌<◌, ◌≤◌, ◌⊎◌, inl, inr, true, false, cond, IsTrue, List, [], ◌∷◌, if◌then◌else◌, length, map, get_or, set, length-set, replicate, Option, Some, None, is_some, refl, sym, ap, subst, ◌∙◌, arith}
 use Rattle.std.specs.List.{All, Contains}
 use Rattle.std.specs.List.Sorted.{IsNonDecreasingBy}
 use Rattle.std.proofs.Math.Seq.{map-set_same}
@@ -15,7 +15,7 @@ use Rattle.fp_place.specs.Areas.{fits}
 use Rattle.fp_place.specs.Held.{Held, has_room}
 use Rattle.fp_gains.specs.declared.tournament.Leader.{Leader}
 use Rattle.fp_gains.specs.Contests.{nobody, unkeyed, keyed, leader_at, rekeyed, IsBehind, IsBest, IsBestSlot}
-use Rattle.fp_gains.specs.Ordered.{Ordered, is_in, key_of, with_key, IsOrderOf, IsNewOrder}
+use Rattle.fp_gains.specs.Ordered.{Ordered, is_in, key_of, with_key, IsOrderOf, IsNewOrder, IsDealt}
 use Rattle.fp_gains.specs.OrderParts.{number_of, key_in, HoldPlaces, numbers, AreSlots, order_as, AreByArea, IsRoomFor, IsRoomy, IsBestRoomy, IsBestWithRoom}
 
 -- where a cell has room, so has one of less area
@@ -78,6 +78,51 @@ key_set die places leaves cell slot key hold there inside =
     ap (λ (cells : List ℕ). with_keys die places cells (map (key_in (rekeyed leaves slot key)) places)) (numbers_kept leaves slot key)
     ∙ ap (with_keys die places (map number_of leaves)) (keys_set places leaves cell slot key hold there inside)
     ∙ sym (ap (λ (o : Option ℕ). with_keys die places (map number_of leaves) (cond (is_some o) (set (map (key_in leaves) places) cell key) (map (key_in leaves) places))) there)
+
+-- each leaf with its cell's key of a list
+abbrev pub dealt : List ℕ → Leader → Leader
+dealt keys leaf = keyed leaf (get_or keys leaf.cell.0 0)
+
+pub leaves_named : (places : List (Option ℕ)) (leaves : List Leader) (many : ℕ) → HoldPlaces places (map number_of leaves) (length leaves) → length places ≡ many
+    → All (λ (leaf : Leader). leaf.cell.0 < many) leaves
+leaves_named places leaves many hold long = All-from_get_or (λ (leaf : Leader). leaf.cell.0 < many) leaves nobody (λ slot below.
+    let found : get_or places (get_or (map number_of leaves) slot 0) None ≡ Some slot = hold.found slot below in
+    let there : get_or places (leader_at leaves slot).cell.0 None ≡ Some slot = subst (λ c. get_or places c None ≡ Some slot) (number_at leaves slot below) found in
+    by slot (cases_lt (leader_at leaves slot).cell.0 (length places)) there)
+  where
+    by : (slot : ℕ) → ((leader_at leaves slot).cell.0 < length places) ⊎ (length places ≤ (leader_at leaves slot).cell.0) → get_or places (leader_at leaves slot).cell.0 None ≡ Some slot
+        → (leader_at leaves slot).cell.0 < many
+    by slot (inl below) there = omega (arith, below, long)
+    by slot (inr past) there = absurd (let nothing : None ≡ Some slot = sym (get_or_past places (leader_at leaves slot).cell.0 None past) ∙ there in cc)
+
+dealt_numbers : (keys : List ℕ) (leaves : List Leader) → map number_of (map (dealt keys) leaves) ≡ map number_of leaves
+dealt_numbers keys [] = refl
+dealt_numbers keys (leaf ∷ leaves) = ap (λ ns. leaf.cell.0 ∷ ns) (dealt_numbers keys leaves)
+
+pub dealt_places : (places : List (Option ℕ)) (keys : List ℕ) (leaves : List Leader) → HoldPlaces places (map number_of leaves) (length leaves)
+    → HoldPlaces places (map number_of (map (dealt keys) leaves)) (length (map (dealt keys) leaves))
+dealt_places places keys leaves hold =
+    subst (HoldPlaces places (map number_of (map (dealt keys) leaves))) (sym (length-map leaves (dealt keys)))
+    (subst (λ (cells : List ℕ). HoldPlaces places cells (length leaves)) (sym (dealt_numbers keys leaves)) hold)
+
+pub order_dealt : (die : Die) (places : List (Option ℕ)) (keys : List ℕ) (leaves : List Leader) → HoldPlaces places (map number_of leaves) (length leaves)
+    → IsDealt keys (order_as die places leaves) (order_as die places (map (dealt keys) leaves))
+order_dealt die places keys leaves hold = record {
+  die = refl;
+  cells = dealt_numbers keys leaves;
+  places = refl;
+  many = length-map places (key_in (map (dealt keys) leaves)) ∙ sym (length-map places (key_in leaves));
+  each = λ cell below.
+      get_or-map (key_in (map (dealt keys) leaves)) places cell None 0 (omega (arith, length-map places (key_in leaves)))
+      ∙ by cell (get_or places cell None) refl;
+}
+  where
+    by : (cell : ℕ) → (o : Option ℕ) → get_or places cell None ≡ o → key_in (map (dealt keys) leaves) o ≡ (if is_some o then get_or keys cell 0 else 0)
+    by cell None at = refl
+    by cell (Some slot) at =
+        let is = hold.named cell slot at in
+        ap (λ (l : Leader). l.key) (get_or-map (dealt keys) leaves slot nobody nobody is.0)
+        ∙ ap (λ (c : ℕ). get_or keys c 0) (sym (number_at leaves slot is.0) ∙ is.1)
 
 -- a new order
 unkeyed_numbers : (cells : List CellId) → map number_of (map unkeyed cells) ≡ numbers cells

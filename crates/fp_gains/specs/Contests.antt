@@ -1,5 +1,6 @@
--- Leaders, and a tournament of their ranks in one list, four to a match: node k holds the greatest of the nodes 4k + 1 to 4k + 4, the slots come last.
-use Rattle.std.specs.Prelude.{◌≡◌, ℕ, ◌+◌, ◌-◌, ◌*◌, ◌/◌, ◌%◌, ◌^◌, ◌<◌, ◌≤◌, ◌⊎◌, List, length, get_or, set, Option, Some, None}
+-- Leaders, and a tournament of their ranks in one list, four to a match: node k holds the greatest of the nodes 4k + 1 to 4k + 4, behind
+-- the inner nodes stand the slots, and behind these as many nodes of 0 as fill the last match.
+use Rattle.std.specs.Prelude.{◌≡◌, ℕ, ◌+◌, ◌-◌, ◌*◌, ◌/◌, ◌%◌, ◌^◌, ◌<◌, ◌≤◌, ◌⊎◌, List, length, get_or, set, map, take, drop, Option, Some, None}
 use Rattle.fp_base.specs.declared.ids.CellId.{CellId}
 use Rattle.fp_gains.specs.declared.tournament.Leader.{Leader}
 
@@ -21,6 +22,10 @@ keyed leader key = record leader { key = key }
 abbrev pub rekeyed : List Leader → ℕ → ℕ → List Leader
 rekeyed leaves slot key = set leaves slot (keyed (leader_at leaves slot) key)
 
+-- a leader with the key that its cell has in a list of keys by cell
+abbrev pub dealt : List ℕ → Leader → Leader
+dealt keys leaf = keyed leaf (get_or keys leaf.cell.0 0)
+
 -- the first does not win against the second
 pub record IsBehind (one other : Leader) : Type 0 where
   pub key : one.key ≤ other.key
@@ -40,6 +45,10 @@ leader_of rank = record { cell = record { 0 = 262143 - rank % 262144 }; key = ra
 abbrev pub unkeyed_rank : CellId → ℕ
 unkeyed_rank cell = 262143 - cell.0
 
+-- a rank with another key
+abbrev pub keyed_rank : ℕ → ℕ → ℕ
+keyed_rank rank key = key * 262144 + rank % 262144
+
 abbrev pub rank_at : List ℕ → ℕ → ℕ
 rank_at ranks place = get_or ranks place 0
 
@@ -52,12 +61,11 @@ pub record IsMost (nodes : List ℕ) (start last best : ℕ) : Type 0 where
   pub there : rank_at nodes node ≡ best
   pub ahead : (other : ℕ) → start ≤ other → other ≤ last → other ≤ start + 3 → rank_at nodes other ≤ best
 
--- the greatest of the nodes below a node; past the end no rank is greater than 0
+-- the greatest of the four nodes below a node
 pub record IsGreatest (nodes : List ℕ) (node best : ℕ) : Type 0 where
   pub child : ℕ
   pub from : 4 * node + 1 ≤ child
   pub upto : child ≤ 4 * node + 4
-  pub within : child < length nodes
   pub there : rank_at nodes child ≡ best
   pub ahead : (other : ℕ) → 4 * node + 1 ≤ other → other ≤ 4 * node + 4 → rank_at nodes other ≤ best
 
@@ -65,16 +73,30 @@ pub record IsGreatest (nodes : List ℕ) (node best : ℕ) : Type 0 where
 abbrev pub IsWon : List ℕ → ℕ → Type 0
 IsWon nodes node = IsGreatest nodes node (rank_at nodes node)
 
--- each inner node has some below it, each node but the first has one above it, and each rank has a key of 32 bits
+-- each inner node has four below it, each node but the first has one above it, and each rank has a key of 32 bits
 pub record IsLaidOut (inner : ℕ) (nodes : List ℕ) : Type 0 where
-  pub many : 4 * inner ≤ length nodes + 2
-  pub few : length nodes ≤ 4 * inner + 1
+  pub full : length nodes ≡ 4 * inner + 1
   pub small : (place : ℕ) → rank_at nodes place < 2 ^ 50
 
 -- all inner nodes hold the greatest of those below them
 pub record IsTree (inner : ℕ) (nodes : List ℕ) : Type 0 where
   pub laid : IsLaidOut inner nodes
   pub won : (node : ℕ) → node < inner → IsWon nodes node
+
+-- so many slots stand behind the inner nodes, the first node below each inner node is no padding, and behind the slots all is 0
+pub record IsPadded (inner slots : ℕ) (nodes : List ℕ) : Type 0 where
+  pub many : 3 * inner ≤ slots + 2
+  pub few : slots ≤ 3 * inner + 1
+  pub behind : (place : ℕ) → inner + slots ≤ place → rank_at nodes place ≡ 0
+
+-- a tournament of so many slots
+pub record IsKept (inner slots : ℕ) (nodes : List ℕ) : Type 0 where
+  pub tree : IsTree inner nodes
+  pub padded : IsPadded inner slots nodes
+
+-- the leaders of the slots
+abbrev pub leaders_in : ℕ → ℕ → List ℕ → List Leader
+leaders_in inner slots nodes = map leader_of (take slots (drop inner nodes))
 
 -- a place is not below a node
 abbrev pub IsElsewhere : ℕ → ℕ → Type 0

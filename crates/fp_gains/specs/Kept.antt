@@ -58,6 +58,7 @@ pub record AreShownBut (one : ℕ) (dies : List Die) (locked : List Bool) (r : R
   pub all_locks : length locked ≡ length dies
   pub all_top : length r.top.keys ≡ length dies
   pub all_bottom : length r.bottom.keys ≡ length dies
+  pub all_listed : length r.listed.items ≡ length dies
   pub top : (cell : ℕ) → cell ≢ one → cell < length dies → Shows dies locked r.keys.items Top r.top cell
   pub bottom : (cell : ℕ) → cell ≢ one → cell < length dies → Shows dies locked r.keys.items Bottom r.bottom cell
   pub top_out : is_in r.top one ≡ false → get_or r.top.keys one 0 ≡ 0
@@ -68,6 +69,7 @@ pub record AreShown (dies : List Die) (locked : List Bool) (r : Ranks) : Type 0 
   pub all_locks : length locked ≡ length dies
   pub all_top : length r.top.keys ≡ length dies
   pub all_bottom : length r.bottom.keys ≡ length dies
+  pub all_listed : length r.listed.items ≡ length dies
   pub top : (cell : ℕ) → cell < length dies → Shows dies locked r.keys.items Top r.top cell
   pub bottom : (cell : ℕ) → cell < length dies → Shows dies locked r.keys.items Bottom r.bottom cell
 
@@ -79,6 +81,19 @@ IsHiddenNear r Bottom cell = key_of r.bottom cell ≡ 0
 pub record IsHidden (r : Ranks) (cell : ℕ) : Type 0 where
   pub top : key_of r.top cell ≡ 0
   pub bottom : key_of r.bottom cell ≡ 0
+
+-- each cell has its place in all lists
+pub record AreLong (dies : List Die) (locked : List Bool) (r : Ranks) : Type 0 where
+  pub all_cells : length r.keys.items ≡ length dies
+  pub all_locks : length locked ≡ length dies
+  pub all_top : length r.top.keys ≡ length dies
+  pub all_bottom : length r.bottom.keys ≡ length dies
+  pub all_listed : length r.listed.items ≡ length dies
+
+-- a list of the keys of the cells that are free to move to a die, 0 for others
+pub record AreListed (dies : List Die) (locked : List Bool) (keys : List ℕ) (die : Die) (listed : List ℕ) : Type 0 where
+  pub many : length listed ≡ length dies
+  pub each : (cell : ℕ) → cell < length dies → get_or listed cell 0 ≡ free_key dies locked keys die cell
 
 -- orders that are of every problem that others are of
 pub record Follow (old new : Ranks) : Type 0 where
@@ -96,6 +111,7 @@ pub record IsStart (p : Netlist) (dies : List Die) (s : State) : Type 0 where
   pub locked : s.locked.items ≡ replicate (length dies) true
   pub sides : s.sides.items ≡ replicate (length p.nets) no_sides
   pub keys : s.ranks.keys.items ≡ replicate (length dies) even
+  pub listed : length s.ranks.listed.items ≡ length dies
   pub top : IsNewOrder p Top s.ranks.top
   pub bottom : IsNewOrder p Bottom s.ranks.bottom
 
@@ -107,6 +123,7 @@ pub record IsLaid (dies : List Die) (nets : ℕ) (s : State) : Type 0 where
   pub keys : s.ranks.keys.items ≡ replicate (length dies) even
   pub all_top : length s.ranks.top.keys ≡ length dies
   pub all_bottom : length s.ranks.bottom.keys ≡ length dies
+  pub all_listed : length s.ranks.listed.items ≡ length dies
   pub top_none : (cell : ℕ) → cell < length dies → key_of s.ranks.top cell ≡ 0
   pub bottom_none : (cell : ℕ) → cell < length dies → key_of s.ranks.bottom cell ≡ 0
 

@@ -26,6 +26,14 @@ key_of o cell = get_or o.keys cell 0
 abbrev pub with_key : Ordered → ℕ → ℕ → Ordered
 with_key o cell key = record o { keys = if is_in o cell then set o.keys cell key else o.keys }
 
+-- the order after each cell that is in it is given its key of a list
+pub record IsDealt (keys : List ℕ) (old new : Ordered) : Type 0 where
+  pub die : new.die ≡ old.die
+  pub cells : new.cells ≡ old.cells
+  pub places : new.places ≡ old.places
+  pub many : length new.keys ≡ length old.keys
+  pub each : (cell : ℕ) → cell < length old.keys → key_of new cell ≡ (if is_in old cell then get_or keys cell 0 else 0)
+
 -- an order of the cells of a problem that fit a die
 pub record IsOrderOf (p : Netlist) (die : Die) (o : Ordered) : Type 0 where
   pub die_is : o.die ≡ die

@@ -103,7 +103,7 @@ impl Gains {
         ensures locked { self.new.locked ≡ map (λ _. false) self.old.locked }
         ensures of_problem { (p : Netlist) → IsGainsOf p self.old → IsGainsOf p self.new }
     {
-        self.state.set_all_locks(false);
+        self.state.unlock_all();
     }
 
     /// Begins again where each cell stands on its die of another list. No cell is locked. What is known of the problem stays, so this is
@@ -160,6 +160,7 @@ fn start(alloc: Global, problem: &Problem, dies: &[Die]) -> Result<State, NoMemo
         keys: vec![in alloc; EVEN; cells]?,
         top: Order::new(alloc, problem, Die::Top)?,
         bottom: Order::new(alloc, problem, Die::Bottom)?,
+        listed: vec![in alloc; 0; cells]?,
     };
     Ok(State {
         dies: Vec::from_slice(alloc, dies)?,

@@ -5,7 +5,7 @@ ghost use Rattle.std.specs.List.Sorted.{IsNonDecreasingBy};
 ghost use Rattle.fp_netlist.specs.Points.{area};
 ghost use Rattle.fp_place.specs.Areas.{fits};
 ghost use Rattle.fp_gains.specs.Contests.{IsBestSlot};
-ghost use Rattle.fp_gains.specs.Ordered.{IsOrderOf, IsNewOrder, IsBestOf, with_key};
+ghost use Rattle.fp_gains.specs.Ordered.{IsOrderOf, IsNewOrder, IsDealt, IsBestOf, with_key};
 ghost use Rattle.fp_gains.specs.OrderParts.{AreByArea, AreSlots, AreApart, AreAreas, IsBestWithRoom, IsRoomFor, cells_alone};
 
 use crate::places::Places;
@@ -60,6 +60,14 @@ impl Order {
         if let Some(slot) = self.slots.get(cell) {
             self.tournament.set(slot as usize, key);
         }
+    }
+
+    /// Gives each cell that is in the order its key of a list.
+    pub fn set_all(&mut self, keys: &[u32])
+        requires { length keys.now ≡ length self.old.keys }
+        ensures { IsDealt keys.now self.old self.new }
+    {
+        self.tournament.deal(keys);
     }
 
     /// Of the cells with a key above 0 that fit the die and have room there, one of greatest key, the least among ties.

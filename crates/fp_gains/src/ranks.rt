@@ -1,11 +1,11 @@
 //! The keys of the cells, in the orders of both dies.
 
-ghost use Rattle.std.specs.Prelude.{◌≡◌, ℕ, ◌<◌, ◌==◌, All, true, false, length, set, if◌then◌else◌};
+ghost use Rattle.std.specs.Prelude.{◌≡◌, ℕ, ◌<◌, ◌≤◌, ◌^◌, ◌==◌, All, true, false, length, set, if◌then◌else◌};
 ghost use Rattle.std.specs.List.{IsDistinct};
 ghost use Rattle.fp_base.specs.declared.ids.Die.TheVariants.{Top, Bottom};
 ghost use Rattle.fp_place.specs.Places.{die_at};
 ghost use Rattle.fp_place.specs.Settled.{is_moved};
-ghost use Rattle.fp_gains.specs.Kept.{free_key, is_free, IsHidden, IsHiddenNear, AreShownBut, AreShown, Follow};
+ghost use Rattle.fp_gains.specs.Kept.{free_key, is_free, IsHidden, IsHiddenNear, AreShownBut, AreShown, AreLong, AreListed, Follow};
 ghost use Rattle.fp_gains.specs.Changes.{AreReweighed, AreInRange};
 
 use crate::order::Order;
@@ -19,6 +19,8 @@ pub struct Ranks {
     pub keys: Vec<u32>,
     pub top: Order,
     pub bottom: Order,
+    /// What an order is given to show of all cells, kept for its memory.
+    pub listed: Vec<u32>,
 }
 
 /// The key of a cell whose move changes nothing.
@@ -71,6 +73,20 @@ impl Ranks {
             Die::Top => self.bottom.set(cell, key),
             Die::Bottom => self.top.set(cell, key),
         }
+    }
+
+    /// Shows all cells, whatever the orders show of them.
+    pub fn show_all(&mut self, dies: &[Die], locked: &[bool])
+        requires few { length dies.now ≤ 2 ^ 18 }
+        requires long { AreLong dies.now locked.now self.old }
+        ensures keys { self.new.keys ≡ self.old.keys }
+        ensures shown { AreShown dies.now locked.now self.new }
+        ensures follow { Follow self.old self.new }
+    {
+        list_free(dies, locked, &self.keys, Die::Top, &mut self.listed);
+        self.top.set_all(&self.listed);
+        list_free(dies, locked, &self.keys, Die::Bottom, &mut self.listed);
+        self.bottom.set_all(&self.listed);
     }
 
     // Sets the key of a cell that is free and stays where it is, and shows it in the order of the die that it would move to.
@@ -127,6 +143,20 @@ impl Ranks {
             let key = self.keys[*cell as usize] + after.share(die) - before.share(die);
             self.change(dies, locked, CellId(*cell), key);
         }
+    }
+}
+
+// Lists the keys of the cells that are free to move to a die, 0 for others.
+fn list_free(dies: &[Die], locked: &[bool], keys: &[u32], die: Die, listed: &mut Vec<u32>)
+    requires few { length dies.now ≤ 2 ^ 18 }
+    requires locks { length locked.now ≡ length dies.now }
+    requires keys { length keys.now ≡ length dies.now }
+    requires listed { length listed.old.items ≡ length dies.now }
+    ensures { AreListed dies.now locked.now keys.now die listed.new.items }
+{
+    for cell in 0..keys.len() as u32 {
+        let place = cell as usize;
+        listed[place] = free_key(dies, locked, keys[place], die, CellId(cell));
     }
 }
 

@@ -91,17 +91,29 @@ impl State {
         self.ranks.show(&self.dies, &self.locked, cell);
     }
 
-    /// Locks or unlocks every cell.
-    pub fn set_all_locks(&mut self, lock: bool)
+    // Locks every cell.
+    fn lock_all(&mut self)
         requires few { length self.old.dies.items ≤ 2 ^ 18 }
         requires shown { AreShown self.old.dies.items self.old.locked.items self.old.ranks }
         ensures shown { AreShown self.new.dies.items self.new.locked.items self.new.ranks }
-        ensures locked { self.new.locked.items ≡ map (λ _. lock) self.old.locked.items }
+        ensures locked { self.new.locked.items ≡ map (λ _. true) self.old.locked.items }
         ensures lies { Lies self.old self.new }
     {
         for cell in 0..self.dies.len() as u32 {
-            self.set_lock(CellId(cell), lock);
+            self.set_lock(CellId(cell), true);
         }
+    }
+
+    /// Unlocks every cell.
+    pub fn unlock_all(&mut self)
+        requires few { length self.old.dies.items ≤ 2 ^ 18 }
+        requires shown { AreShown self.old.dies.items self.old.locked.items self.old.ranks }
+        ensures shown { AreShown self.new.dies.items self.new.locked.items self.new.ranks }
+        ensures locked { self.new.locked.items ≡ map (λ _. false) self.old.locked.items }
+        ensures lies { Lies self.old self.new }
+    {
+        self.locked.fill(false);
+        self.ranks.show_all(&self.dies, &self.locked);
     }
 
     // Puts the cells, which are all locked, on these dies, with no cell of a net counted.
@@ -130,7 +142,7 @@ impl State {
         ensures counted { AreCounted members.now self.new.dies.items self.new.sides.items }
         ensures follow { Follow self.old.ranks self.new.ranks }
     {
-        self.set_all_locks(true);
+        self.lock_all();
         self.lay(dies);
         self.begin(members);
     }
@@ -147,7 +159,7 @@ impl State {
         ensures follow { Follow self.old.ranks self.new.ranks }
     {
         self.count(members);
-        self.set_all_locks(false);
+        self.unlock_all();
     }
 
     // Counts the cells of each net on each die.

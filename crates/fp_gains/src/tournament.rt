@@ -1,8 +1,8 @@
 //! A tournament over slots, each with a cell and a key: a greater key wins, and a lesser cell among equal keys.
 
-ghost use Rattle.std.specs.Prelude.{◌≡◌, ◌+◌, ◌-◌, ◌*◌, ◌/◌, ◌%◌, ◌<◌, ◌≤◌, ◌^◌, ◌++◌, IfOk, length, map, drop, replicate};
+ghost use Rattle.std.specs.Prelude.{◌≡◌, ◌+◌, ◌-◌, ◌*◌, ◌/◌, ◌%◌, ◌<◌, ◌≤◌, ◌^◌, ◌++◌, IfOk, length, get_or, set, map, drop, replicate};
 ghost use Rattle.std.specs.List.{All};
-ghost use Rattle.fp_gains.specs.Contests.{leader_of, leader_at, unkeyed, unkeyed_rank, rekeyed, rank_at, IsWinner, IsMost, IsGreatest, IsLaidOut, IsTree, IsWaiting, IsTop, IsOuter, IsBestSlot};
+ghost use Rattle.fp_gains.specs.Contests.{leader_of, leader_at, unkeyed, unkeyed_rank, keyed, keyed_rank, rekeyed, dealt, leaders_in, rank_at, IsWinner, IsMost, IsGreatest, IsLaidOut, IsTree, IsKept, IsWaiting, IsTop, IsOuter, IsBestSlot};
 
 use fp_base::{CellId, NoMemory};
 use std::alloc::Global;
@@ -23,10 +23,12 @@ const PLAYERS: usize = 4;
 
 /// So many slots, each with a cell and a key. Setting a key and asking for the best of the first slots take a number of steps that is
 /// logarithmic in the slots. Our own: a slot is one number, its rank, which is greater for a better leader. The ranks stand in one
-/// flat list, of which node k holds the greatest of the nodes 4k + 1 to 4k + 4, and the slots are its end, behind the inner nodes.
+/// flat list, of which node k holds the greatest of the nodes 4k + 1 to 4k + 4. The slots stand behind the inner nodes, and the at
+/// most two nodes behind the slots, which fill the last match, hold 0.
 #[derive(Drop)]
 pub struct Tournament {
     inner: usize,
+    slots: usize,
     nodes: Vec<u64>,
 }
 
@@ -43,24 +45,29 @@ impl Model for Tournament {
 }
 
 impl Tournament {
-    /// A slot of key 0 for each of these cells, in this order. The only call that takes memory, at most 12 bytes for each cell; it fails
-    /// where there is none.
+    /// A slot of key 0 for each of these cells, in this order. The only call that takes memory, at most 11 bytes for each cell and 19
+    /// more; it fails where there is none.
     pub fn new(alloc: Global, cells: &[CellId]) -> Result<Tournament, NoMemory>
         requires few { length cells.now ≤ 2 ^ 18 }
         requires small { All (λ cell. cell.0 < 2 ^ 18) cells.now }
         ensures { IfOk result (λ tournament. tournament ≡ map unkeyed cells.now) }
     {
-        let inner = (cells.len() + 1) / (PLAYERS - 1);
+        let slots = cells.len();
+        let inner = (slots + 1) / (PLAYERS - 1);
         let mut nodes = seats(alloc, cells, inner)?;
         play(&mut nodes, inner);
-        Ok(Tournament { inner, nodes })
+        Ok(Tournament {
+            inner,
+            slots,
+            nodes,
+        })
     }
 
     /// The number of slots.
     pub fn len(&self) -> usize
         ensures { result ≡ length self.now }
     {
-        self.nodes.len() - self.inner
+        self.slots
     }
 
     /// The cell of a slot.
@@ -79,11 +86,19 @@ impl Tournament {
         rekey(&mut self.nodes, self.inner, slot, key);
     }
 
+    /// Gives each slot the key that its cell has in a list of keys by cell.
+    pub fn deal(&mut self, keys: &[u32])
+        requires { All (λ leaf. leaf.cell.0 < length keys.now) self.old }
+        ensures { self.new ≡ map (λ leaf. keyed leaf (get_or keys.now leaf.cell.0 0)) self.old }
+    {
+        rekey_all(&mut self.nodes, self.inner, self.slots, keys);
+    }
+
     /// The best of all slots; none where there are none.
     pub fn leader(&self) -> Option<Leader>
         ensures { IsBestSlot self.now (length self.now) result }
     {
-        if self.nodes.is_empty() {
+        if self.slots == 0 {
             return None;
         }
         Some(leader_with(self.nodes[0]))
@@ -94,7 +109,7 @@ impl Tournament {
         requires { count ≤ length self.now }
         ensures { IsBestSlot self.now count result }
     {
-        if count == self.len() {
+        if count == self.slots {
             return self.leader();
         }
         if count == 0 {
@@ -126,18 +141,28 @@ fn leader_with(rank: u64) -> Leader
     }
 }
 
-// The ranks of the cells, each with key 0, behind so many nodes that are not played yet.
+// A rank with another key.
+fn with_key(rank: u64, key: u32) -> u64
+    ensures { result ≡ keyed_rank rank key }
+{
+    u64::from(key) * CELLS + rank % CELLS
+}
+
+// The ranks of the cells, each with key 0, behind so many nodes that are not played yet, and nodes of 0 up to the end of the last match.
 fn seats(alloc: Global, cells: &[CellId], inner: usize) -> Result<Vec<u64>, NoMemory>
     requires few { length cells.now ≤ 2 ^ 18 }
     requires small { All (λ cell. cell.0 < 2 ^ 18) cells.now }
     requires inner { inner ≤ 2 ^ 18 }
-    ensures { IfOk result (λ nodes. nodes.items ≡ replicate inner 0 ++ map unkeyed_rank cells.now) }
+    requires fits { length cells.now ≤ 3 * inner + 1 }
+    ensures { IfOk result (λ nodes. nodes.items ≡ replicate inner 0 ++ map unkeyed_rank cells.now ++ replicate (3 * inner + 1 - length cells.now) 0) }
 {
-    let mut nodes = Vec::with_capacity(alloc, inner + cells.len())?;
+    let full = PLAYERS * inner + 1;
+    let mut nodes = Vec::with_capacity(alloc, full)?;
     nodes.resize(inner, 0)?;
     for cell in cells {
         nodes.push(CELLS - 1 - u64::from(cell.0))?;
     }
+    nodes.resize(full, 0)?;
     Ok(nodes)
 }
 
@@ -152,12 +177,15 @@ fn play(nodes: &mut [u64], inner: usize)
     }
 }
 
-// The greatest of the nodes below a node.
+// The greatest of the four nodes below a node.
 fn greatest(nodes: &[u64], node: usize) -> u64
-    requires { 4 * node + 1 < length nodes.now }
+    requires { 4 * node + 4 < length nodes.now }
     ensures { IsGreatest nodes.now node result }
 {
-    most(nodes, PLAYERS * node + 1, nodes.len() - 1)
+    let first = PLAYERS * node + 1;
+    let early = nodes[first].max(nodes[first + 1]);
+    let late = nodes[first + 2].max(nodes[first + 3]);
+    early.max(late)
 }
 
 // The greatest of four nodes at most, those from `start` on and up to `last`. It has no branch: where there are fewer, the last one
@@ -180,12 +208,27 @@ fn rekey(nodes: &mut [u64], inner: usize, slot: usize, key: u32)
     requires tree { IsTree inner nodes.old }
     requires slot { inner + slot < length nodes.old }
     ensures tree { IsTree inner nodes.new }
-    ensures leaves { map leader_of (drop inner nodes.new) ≡ rekeyed (map leader_of (drop inner nodes.old)) slot key }
+    ensures leaves { drop inner nodes.new ≡ drop inner (set nodes.old (inner + slot) (keyed_rank (rank_at nodes.old (inner + slot)) key)) }
 {
     let leaf = inner + slot;
     let held = nodes[leaf];
-    nodes[leaf] = u64::from(key) * CELLS + held % CELLS;
+    nodes[leaf] = with_key(held, key);
     replay(nodes, inner, leaf, held);
+}
+
+// Gives each slot the key that its cell has in a list of keys by cell, and plays all matches.
+fn rekey_all(nodes: &mut [u64], inner: usize, slots: usize, keys: &[u32])
+    requires kept { IsKept inner slots nodes.old }
+    requires cells { All (λ leaf. leaf.cell.0 < length keys.now) (leaders_in inner slots nodes.old) }
+    ensures kept { IsKept inner slots nodes.new }
+    ensures leaves { leaders_in inner slots nodes.new ≡ map (dealt keys.now) (leaders_in inner slots nodes.old) }
+{
+    for slot in 0..slots {
+        let rank = nodes[inner + slot];
+        let cell = leader_with(rank).cell;
+        nodes[inner + slot] = with_key(rank, keys[cell.0 as usize]);
+    }
+    play(nodes, inner);
 }
 
 // Plays the matches above a changed node again, up to the first whose winner stays.
