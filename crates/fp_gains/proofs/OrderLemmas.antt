@@ -14,7 +14,7 @@ use Rattle.fp_netlist.specs.Points.{area}
 use Rattle.fp_place.specs.Areas.{fits}
 use Rattle.fp_place.specs.Held.{Held, has_room}
 use Rattle.fp_gains.specs.declared.tournament.Leader.{Leader}
-use Rattle.fp_gains.specs.Contests.{nobody, unkeyed, keyed, leader_at, rekeyed, IsBehind, IsBest, IsBestSlot}
+use Rattle.fp_gains.specs.Contests.{nobody, unkeyed, keyed, leader_at, rekeyed, dealt, IsBehind, IsBest, IsBestSlot}
 use Rattle.fp_gains.specs.Ordered.{Ordered, is_in, key_of, with_key, IsOrderOf, IsNewOrder, IsDealt}
 use Rattle.fp_gains.specs.OrderParts.{number_of, key_in, HoldPlaces, numbers, AreSlots, order_as, AreByArea, IsRoomFor, IsRoomy, IsBestRoomy, IsBestWithRoom}
 
@@ -79,10 +79,7 @@ key_set die places leaves cell slot key hold there inside =
     ∙ ap (with_keys die places (map number_of leaves)) (keys_set places leaves cell slot key hold there inside)
     ∙ sym (ap (λ (o : Option ℕ). with_keys die places (map number_of leaves) (cond (is_some o) (set (map (key_in leaves) places) cell key) (map (key_in leaves) places))) there)
 
--- each leaf with its cell's key of a list
-abbrev pub dealt : List ℕ → Leader → Leader
-dealt keys leaf = keyed leaf (get_or keys leaf.cell.0 0)
-
+-- keys dealt to all leaves
 pub leaves_named : (places : List (Option ℕ)) (leaves : List Leader) (many : ℕ) → HoldPlaces places (map number_of leaves) (length leaves) → length places ≡ many
     → All (λ (leaf : Leader). leaf.cell.0 < many) leaves
 leaves_named places leaves many hold long = All-from_get_or (λ (leaf : Leader). leaf.cell.0 < many) leaves nobody (λ slot below.

@@ -1,8 +1,8 @@
 //! A tournament over slots, each with a cell and a key: a greater key wins, and a lesser cell among equal keys.
 
-ghost use Rattle.std.specs.Prelude.{◌≡◌, ◌+◌, ◌-◌, ◌*◌, ◌/◌, ◌%◌, ◌<◌, ◌≤◌, ◌^◌, ◌++◌, IfOk, length, get_or, set, map, drop, replicate};
+ghost use Rattle.std.specs.Prelude.{◌≡◌, ◌+◌, ◌-◌, ◌*◌, ◌/◌, ◌%◌, ◌<◌, ◌≤◌, ◌^◌, ◌++◌, IfOk, length, set, map, drop, replicate};
 ghost use Rattle.std.specs.List.{All};
-ghost use Rattle.fp_gains.specs.Contests.{leader_of, leader_at, unkeyed, unkeyed_rank, keyed, keyed_rank, rekeyed, dealt, leaders_in, rank_at, IsWinner, IsMost, IsGreatest, IsLaidOut, IsTree, IsKept, IsWaiting, IsTop, IsOuter, IsBestSlot};
+ghost use Rattle.fp_gains.specs.Contests.{leader_of, leader_at, unkeyed, unkeyed_rank, keyed_rank, rekeyed, dealt, leaders_in, rank_at, IsWinner, IsMost, IsGreatest, IsLaidOut, IsTree, IsKept, IsWaiting, IsTop, IsOuter, IsBestSlot};
 
 use fp_base::{CellId, NoMemory};
 use std::alloc::Global;
@@ -89,7 +89,7 @@ impl Tournament {
     /// Gives each slot the key that its cell has in a list of keys by cell.
     pub fn deal(&mut self, keys: &[u32])
         requires { All (λ leaf. leaf.cell.0 < length keys.now) self.old }
-        ensures { self.new ≡ map (λ leaf. keyed leaf (get_or keys.now leaf.cell.0 0)) self.old }
+        ensures { self.new ≡ map (dealt keys.now) self.old }
     {
         rekey_all(&mut self.nodes, self.inner, self.slots, keys);
     }
