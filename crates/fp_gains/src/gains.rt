@@ -94,7 +94,7 @@ impl Gains {
         ensures locked { self.new.locked ≡ set self.old.locked cell.0 true }
         ensures of_problem { (p : Netlist) → IsGainsOf p self.old → IsGainsOf p self.new }
     {
-        self.state.set_lock(cell, true);
+        self.state.lock(cell);
     }
 
     /// Unlocks every cell.

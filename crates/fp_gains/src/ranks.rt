@@ -58,20 +58,19 @@ impl Ranks {
         }
     }
 
-    /// Shows a cell that was locked or unlocked. The order of the die that it stands on has nothing to show of it.
-    pub fn show(&mut self, dies: &[Die], locked: &[bool], cell: CellId)
+    /// Shows a cell no more that was locked. The order of the die that it stands on has nothing to show of it.
+    pub fn hide(&mut self, dies: &[Die], locked: &[bool], cell: CellId)
         requires cell { cell.0 < length dies.now }
+        requires locked { is_moved locked.now cell.0 ≡ true }
         requires shown { AreShownBut cell.0 dies.now locked.now self.old }
         requires near { IsHiddenNear self.old (die_at dies.now cell.0) cell.0 }
         ensures keys { self.new.keys ≡ self.old.keys }
         ensures shown { AreShown dies.now locked.now self.new }
         ensures follow { Follow self.old self.new }
     {
-        let place = cell.0 as usize;
-        let key = if locked[place] { 0 } else { self.keys[place] };
-        match dies[place] {
-            Die::Top => self.bottom.set(cell, key),
-            Die::Bottom => self.top.set(cell, key),
+        match dies[cell.0 as usize] {
+            Die::Top => self.bottom.set(cell, 0),
+            Die::Bottom => self.top.set(cell, 0),
         }
     }
 

@@ -76,19 +76,19 @@ impl State {
         self.ranks.turn(&self.dies, &self.locked, cell, key);
     }
 
-    /// Locks or unlocks a cell.
-    pub fn set_lock(&mut self, cell: CellId, lock: bool)
+    /// Locks a cell.
+    pub fn lock(&mut self, cell: CellId)
         requires cell { cell.0 < length self.old.dies.items }
         requires shown { AreShown self.old.dies.items self.old.locked.items self.old.ranks }
         ensures shown { AreShown self.new.dies.items self.new.locked.items self.new.ranks }
-        ensures locked { self.new.locked.items ≡ set self.old.locked.items cell.0 lock }
+        ensures locked { self.new.locked.items ≡ set self.old.locked.items cell.0 true }
         ensures lies { Lies self.old self.new }
     {
-        if self.locked[cell.0 as usize] == lock {
+        if self.locked[cell.0 as usize] {
             return;
         }
-        self.locked[cell.0 as usize] = lock;
-        self.ranks.show(&self.dies, &self.locked, cell);
+        self.locked[cell.0 as usize] = true;
+        self.ranks.hide(&self.dies, &self.locked, cell);
     }
 
     // Locks every cell.
@@ -100,7 +100,7 @@ impl State {
         ensures lies { Lies self.old self.new }
     {
         for cell in 0..self.dies.len() as u32 {
-            self.set_lock(CellId(cell), true);
+            self.lock(CellId(cell));
         }
     }
 

@@ -4,10 +4,10 @@ use Rattle.fp_gains.proofs.state.State.lock_all.Goals as goal
 
 pub loop-cell-preserved : goal.loop-cell-preserved
 loop-cell-preserved c = record {
-  shown = c.set_lock.ensures.shown;
+  shown = c.lock.ensures.shown;
   locked =
-      c.set_lock.ensures.locked
+      c.lock.ensures.locked
       ∙ ap (λ locked. set locked c.loop-cell.cell true) c.loop-cell.invariant.locked
       ∙ locks_more true c.args.self.now.locked.items c.loop-cell.cell (omega (arith, c.requires.shown.all_locks, c.len-cell-end.ensures, c.args.self.now.dies.ok.0));
-  lies = lies_more _ c.loop-cell.self c.set_lock.new.self c.loop-cell.invariant.lies c.set_lock.ensures.lies;
+  lies = lies_more _ c.loop-cell.self c.lock.new.self c.loop-cell.invariant.lies c.lock.ensures.lies;
 }
