@@ -22,9 +22,6 @@ pub record IsGainOf (p : Netlist) (dies : List Die) (cell now : ℕ) (gain : ℤ
   pub now_is : now ≡ cut p dies
   pub gain_is : pos (cut p dies) ≡ (pos (cut p (flipped dies cell)) +ℤ gain)
 
-pub gain_low : (p : Netlist) (dies : List Die) (cell now : ℕ) (gain : ℤ) → IsGainOf p dies cell now gain → gain ≤ℤ pos now
-gain_low p dies cell now gain is = omega (arith, ints, is.now_is, is.gain_is)
-
 pub gain_high : (p : Netlist) (dies : List Die) (cell now : ℕ) (gain : ℤ) → IsGainOf p dies cell now gain → pos now ≤ℤ (gain +ℤ pos 262144)
 gain_high p dies cell now gain is = omega (arith, ints, is.now_is, is.gain_is, cut_few p (flipped dies cell) (length p.nets), is.sound.few_nets)
 
