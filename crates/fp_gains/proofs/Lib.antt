@@ -4,7 +4,6 @@ pub mod HoldLemmas
 pub mod LinkLemmas
 pub mod ListLemmas
 pub mod NewLemmas
-pub mod OrderLaws
 pub mod OrderLemmas
 pub mod RankLemmas
 pub mod SortLemmas

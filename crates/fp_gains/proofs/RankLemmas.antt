@@ -17,23 +17,6 @@ use Rattle.fp_gains.specs.Ordered.{Ordered, is_in, IsOrderOf, IsDealt}
 use Rattle.fp_gains.specs.Changes.{AreInRange, part, AreReweighed}
 use Rattle.fp_gains.proofs.HoldLemmas.{holds_more, not_before, same_true}
 
-pub shown_but : (cell : ℕ) (dies : List Die) (locked : List Bool) (r : Ranks) → cell < length dies → AreShown dies locked r → AreShownBut cell dies locked r
-shown_but cell dies locked r within are = record {
-  all_cells = are.all_cells;
-  all_locks = are.all_locks;
-  all_top = are.all_top;
-  all_bottom = are.all_bottom;
-  all_listed = are.all_listed;
-  top = λ c _ less. are.top c less;
-  bottom = λ c _ less. are.bottom c less;
-  top_out = λ out. are.top cell within ∙ ap (λ b. if b then free_key dies locked r.keys.items Top cell else 0) out;
-  bottom_out = λ out. are.bottom cell within ∙ ap (λ b. if b then free_key dies locked r.keys.items Bottom cell else 0) out;
-}
-
--- no cell yet
-pub reweighed_none : (dies : List Die) (cells : List ℕ) (before after : Sides) (keys : List ℕ) → AreReweighed dies (take 0 cells) before after keys keys
-reweighed_none dies cells before after keys = record { many = refl; each = λ c less. refl }
-
 -- a cell that is not there yet has its key
 pub waits : (dies : List Die) (cells : List ℕ) (before after : Sides) (old now : List ℕ) (i : ℕ) → AreReweighed dies (take i cells) before after old now
     → IsDistinct (λ a b. a == b) cells → i < length cells → get_or cells i 0 < length dies → get_or now (get_or cells i 0) 0 ≡ get_or old (get_or cells i 0) 0
@@ -101,9 +84,6 @@ reweighed_more dies cells before after old now new i key are once within there m
         let at : (sides : Sides) → part dies (take (i + 1) cells) sides c ≡ part dies (take i cells) sides c = λ sides. more sides c false e ∙ ap (λ h. if h then share (die_at dies c) sides else 0) (or_false (holds (take i cells) c)) in
         let set_is : get_or new c 0 ≡ get_or now c 0 = ap (λ ks. get_or ks c 0) new_is ∙ get_or-set_other now (get_or cells i 0) c key 0 other in
         omega (arith, at before, at after, set_is, are.each c less)
-
-pub reweighed_all : (dies : List Die) (cells : List ℕ) (before after : Sides) (old now : List ℕ) (i : ℕ) → length cells ≤ i → AreReweighed dies (take i cells) before after old now → AreReweighed dies cells before after old now
-reweighed_all dies cells before after old now i all are = subst (λ cs. AreReweighed dies cs before after old now) (take_all i cells all) are
 
 pub follow_none : (r : Ranks) → Follow r r
 follow_none r = record { top = λ p is. is; bottom = λ p is. is }

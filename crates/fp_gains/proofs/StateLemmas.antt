@@ -59,9 +59,6 @@ weighs_alike dies cells before after keys top bottom = record {
     by Top = top
     by Bottom = bottom
 
-pub stands_none : (s : State) → Stands s s
-stands_none s = record { dies = refl; locked = refl; follow = follow_none s.ranks }
-
 pub stands_more : (a b c : State) → Stands a b → Stands b c → Stands a c
 stands_more a b c first next = record {
   dies = next.dies ∙ first.dies;
@@ -88,9 +85,6 @@ turn_read nets die old now i read are once can less within read_is = record { is
 
     can_here : (0 < count_on read die) × (read.top + read.bottom ≤ 2 ^ 22)
     can_here = subst (λ s. (0 < count_on s die) × (s.top + s.bottom ≤ 2 ^ 22)) (sym is) (can (get_or nets i 0) (list_any_at (λ other. get_or nets i 0 == other) nets i 0 less (same_true (get_or nets i 0))))
-
-pub turned_none : (nets : List ℕ) (die : Die) (sides : List Sides) → AreTurned (take 0 nets) die sides sides
-turned_none nets die sides = record { many = refl; each = λ net less. refl }
 
 abbrev pub IsTurnedAt : List ℕ → Die → List Sides → List Sides → ℕ → Type 0
 IsTurnedAt nets die old new net = get_or new net no_sides ≡ (if holds nets net then moved (get_or old net no_sides) die else get_or old net no_sides)
@@ -131,9 +125,6 @@ turned_more nets die old now new i read after are less within read_is after_is n
         ∙ are.each net there
         ∙ sym (ap (λ b. if b then moved (get_or old net no_sides) die else get_or old net no_sides)
         (holds_more nets i net less ∙ ap (λ b. holds (take i nets) net || b) e ∙ or_false (holds (take i nets) net)))
-
-pub turned_all : (nets : List ℕ) (die : Die) (old now : List Sides) (i : ℕ) → length nets ≤ i → AreTurned (take i nets) die old now → AreTurned nets die old now
-turned_all nets die old now i all are = subst (λ ns. AreTurned ns die old now) (take_all i nets all) are
 
 -- a cell can turn in each of its nets
 pub can_turn : (members nets : List (List ℕ)) (s : State) (x : ℕ) → IsKept members nets s → x < length s.dies.items → CanTurn (list_at nets x) (die_at s.dies.items x) s.sides.items
@@ -241,10 +232,6 @@ moved_kept members nets s t n x kept within is = record {
     same_sides : n.sides.items ≡ t.sides.items
     same_sides = ap (λ ss. ss.items) is.sides
 
--- every lock of a front is set, one more or as it was
-pub locks_none : (lock : Bool) (locked : List Bool) → locked ≡ map (λ _. lock) (take 0 locked) ++ drop 0 locked
-locks_none lock locked = refl
-
 pub locks_more : (lock : Bool) (old : List Bool) (i : ℕ) → i < length old
     → set (map (λ (b : Bool). lock) (take i old) ++ drop i old) i lock ≡ map (λ (b : Bool). lock) (take (i + 1) old) ++ drop (i + 1) old
 locks_more lock [] i within = absurd (omega arith)
@@ -253,12 +240,6 @@ locks_more lock (b ∷ old) (suc i) within =
     let up : suc i + 1 ≡ suc (i + 1) = omega arith in
     ap (λ bs. lock ∷ bs) (locks_more lock old i (omega arith)) ∙ sym (ap (λ j. map (λ (b : Bool). lock) (take j (b ∷ old)) ++ drop j (b ∷ old)) up)
 
-pub locks_all : (lock : Bool) (old : List Bool) (i : ℕ) → length old ≤ i → map (λ (b : Bool). lock) (take i old) ++ drop i old ≡ map (λ _. lock) old
-locks_all lock old i all = ap (λ bs. map (λ (b : Bool). lock) bs ++ drop i old) (take_all i old all) ∙ ap (λ bs. map (λ _. lock) old ++ bs) (drop_all i old all) ∙ append-nil (map (λ _. lock) old)
-
-pub lies_none : (s : State) → Lies s s
-lies_none s = record { dies = refl; sides = refl; keys = refl; follow = follow_none s.ranks }
-
 pub lies_more : (a b c : State) → Lies a b → Lies b c → Lies a c
 lies_more a b c first next = record {
   dies = next.dies ∙ first.dies;
@@ -266,17 +247,3 @@ lies_more a b c first next = record {
   keys = next.keys ∙ first.keys;
   follow = follow_more a.ranks b.ranks c.ranks first.follow next.follow;
 }
-
--- numbers of cells of the first nets, and of one more
-pub counted_more : (members : List (List ℕ)) (dies dies' : List Die) (now new : List Sides) (i : ℕ) (counted : Sides) → ((net : ℕ) → net < i → get_or now net no_sides ≡ sides_of dies (list_at members net))
-    → i < length now → dies' ≡ dies → counted ≡ sides_of dies (list_at members i) → new ≡ set now i counted → (net : ℕ) → net < i + 1 → get_or new net no_sides ≡ sides_of dies' (list_at members net)
-counted_more members dies dies' now new i counted are within dies_are counted_is new_is net less =
-    ap (λ ss. get_or ss net no_sides) new_is ∙ by (net == i) refl ∙ ap (λ ds. sides_of ds (list_at members net)) (sym dies_are)
-  where
-    by : (b : Bool) → (net == i) ≡ b → get_or (set now i counted) net no_sides ≡ sides_of dies (list_at members net)
-    by true e =
-        let same : i ≡ net = grind (arith, nat_tests) in
-        subst (λ n. get_or (set now i counted) n no_sides ≡ sides_of dies (list_at members n)) same (get_or-set_same now i counted no_sides within ∙ counted_is)
-    by false e =
-        let other : net ≢ i = grind (arith, nat_tests) in
-        get_or-set_other now i net counted no_sides other ∙ are net (omega arith)
