@@ -62,6 +62,7 @@ impl Sides {
     pub fn weighs_as(self, other: Sides) -> bool
         ensures top { IsTrue result → share Top self ≡ share Top other }
         ensures bottom { IsTrue result → share Bottom self ≡ share Bottom other }
+        ensures same { share Top self ≡ share Top other → share Bottom self ≡ share Bottom other → IsTrue result }
     {
         self.share(Die::Top) == other.share(Die::Top)
             && self.share(Die::Bottom) == other.share(Die::Bottom)
