@@ -59,6 +59,8 @@ impl<S: Side> Model for SegId<S> {
 }
 
 impl<S: Side> Clone for SegId<S> {
+    ghost is_clone = { λ old new. new ≡ old };
+
     fn clone(&self) -> Result<Self, AllocError> {
         Ok(SegId::new(self.index))
     }
