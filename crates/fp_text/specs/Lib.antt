@@ -1,6 +1,7 @@
 pub use Rattle.fp_base.specs.Files
 pub use Rattle.fp_base.specs.Faults
 pub mod Words
+pub mod Items
 pub mod WordsLaws
 pub mod Numbers
 pub mod Reading

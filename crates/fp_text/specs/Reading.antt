@@ -1,6 +1,6 @@
 -- Reading a grammar from left to right, token by token: a value and the tokens that are left, or
 -- the first fault.
-use Rattle.std.specs.Prelude.{◌≡◌, ℕ, zero, suc, ◌^◌, nat_lt, nat_le, ◌&&◌, if◌then◌else◌, List, [], ◌∷◌, ◌++◌, length, Result, Ok, Err}
+use Rattle.std.specs.Prelude.{◌≡◌, ℕ, zero, suc, ◌^◌, Bool, false, nat_lt, nat_le, ◌&&◌, if◌then◌else◌, List, [], ◌∷◌, ◌++◌, length, Result, Ok, Err}
 use Rattle.std.specs.Str.{bytes_eq}
 use Rattle.fp_text.specs.Words.{Word, words_of}
 use Rattle.fp_text.specs.Numbers.{is_digits, value_of, is_name}
@@ -47,6 +47,13 @@ unfoldable pub keyword_next : List ℕ → Left → Read ℕ
 keyword_next keyword l = do
   word ← word_next l
   if bytes_eq word.0.text keyword then Ok (word.0.at, word.1) else fault word.0.at WrongWord
+
+-- the next token is this keyword
+abbrev pub begins : List ℕ → Left → Bool
+begins keyword l = is_first l.words where
+  is_first : List Word → Bool
+  is_first [] = false
+  is_first (word ∷ words) = bytes_eq word.text keyword
 
 -- a name
 unfoldable pub name_next : Left → Read Word

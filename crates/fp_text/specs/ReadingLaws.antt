@@ -7,6 +7,7 @@ use Rattle.std.proofs.lemmas.Bool.{and_parts, and_from, ltb-false, leb-true, le-
 use Rattle.std.proofs.lemmas.List.{append-nil}
 use Rattle.std.proofs.lemmas.Slice.Eq.{bytes_eq-Decides}
 use Rattle.fp_text.specs.Words.{Word}
+use Rattle.fp_text.specs.Items.{Each}
 use Rattle.fp_text.specs.Numbers.{is_digits, value_of, is_name, Spells}
 use Rattle.fp_text.specs.Reading.{Fault, Left, Read, ◌>>=◌, fault, word_next, keyword_next, name_next, number_next, end_next, many_next, GivesFault}
 use Rattle.fp_text.specs.declared.fault.Kind.{Kind}
@@ -258,13 +259,6 @@ many_done item count i so_far l total le is =
     sym is ∙ one
 
 -- ---- so many items, and the words that spell them
-
--- each item stands in the next words: `stands before item words rest`
-abbrev pub Each : {A : Type 0} → (List A → A → List Word → List Word → Type 0) → List A → List A
-    → List Word → List Word → Type 0
-Each stands before [] words rest = words ≡ rest
-Each stands before (x ∷ xs) words rest = (middle : List Word) × stands before x words middle
-    × Each stands (before ++ x ∷ []) xs middle rest
 
 -- items that were read behind others
 pub record AreRead {A : Type 0} (stands : List A → A → List Word → List Word → Type 0) (count : ℕ)

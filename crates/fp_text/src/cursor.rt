@@ -4,7 +4,7 @@ ghost use Rattle.std.specs.Prelude.{◌≡◌, ◌≤◌, ◌<◌, ◌≢◌, �
 ghost use Rattle.std.specs.List.{list_all};
 ghost use Rattle.fp_text.specs.Words.{is_blank, IsToken, AreTokens};
 ghost use Rattle.fp_text.specs.Numbers.{is_name, is_name_byte};
-ghost use Rattle.fp_text.specs.Reading.{Ends, whole, Gives, word_next, keyword_next, name_next, number_next, end_next};
+ghost use Rattle.fp_text.specs.Reading.{Ends, whole, Gives, begins, word_next, keyword_next, name_next, number_next, end_next};
 ghost use Rattle.fp_text.specs.Cursor.{Advances, word_at, word_of};
 
 use crate::fault::{Kind, TextFault};
@@ -151,6 +151,20 @@ impl<'a> Tokens<'a> {
                 at: word.at,
                 kind: Kind::Word,
             })
+        }
+    }
+
+    /// Whether the next token is this keyword; nothing is read.
+    pub fn begins(&self, keyword: &[u8]) -> bool
+        ensures { result ≡ begins keyword.now self.now }
+    {
+        let mut ahead = Tokens {
+            source: self.source,
+            place: self.place,
+        };
+        match ahead.next() {
+            Some(token) => ahead.bytes(token) == keyword,
+            None => false,
         }
     }
 

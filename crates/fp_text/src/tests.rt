@@ -1,5 +1,5 @@
 use super::*;
-use fp_base::{MemFolder, NoMemory};
+use fp_base::{Failed, MemFolder, NoMemory};
 use std::alloc::Global;
 use std::test::Fail;
 
@@ -42,6 +42,7 @@ fn signed_numbers_of_tokens(rt: HostRuntime) -> Result<(), Fail> {
 #[test]
 fn tokens_between_blanks(rt: HostRuntime) -> Result<(), Fail> {
     let mut tokens = Tokens::new(b"\r\n Pin\tP1  0 \r\nend\t");
+    assert!(rt; tokens.begins(b"Pin") && !tokens.begins(b"Pi"));
     assert_eq!(rt; tokens.next(), Some(Token { start: 3, end: 6 }));
     assert_eq!(rt; tokens.next(), Some(Token { start: 7, end: 9 }));
     assert_eq!(rt; tokens.next(), Some(Token { start: 11, end: 12 }));
@@ -187,13 +188,22 @@ fn pieces_of_a_file(rt: HostRuntime) -> Result<(), Fail> {
     Ok(())
 }
 
+/// Writes pieces of 3 and 5,000 bytes, numbers and the end to the file `o`.
+fn write_on(folder: &mut MemFolder) -> Result<(), Failed> {
+    let mut writer = Writer::new(folder, "o");
+    writer.put(folder, "o", b"abc");
+    writer.put(folder, "o", &[b'x'; 5000]);
+    writer.number(folder, "o", 1);
+    writer.signed(folder, "o", -1);
+    writer.finish(folder, "o")
+}
+
 #[test]
 fn no_call_after_a_failed_one(rt: HostRuntime) -> Result<(), Fail> {
-    let mut folder = folder(rt.alloc(), &[1])?;
-    let mut writer = Writer::new(&mut folder, "o");
-    writer.put(&mut folder, "o", &[b'x'; 5000]);
-    writer.put(&mut folder, "o", b"\n");
-    assert!(rt; writer.finish(&mut folder, "o").is_err());
-    assert_eq!(rt; folder.calls(), 2);
+    for fails in 0..4u64 {
+        let mut folder = folder(rt.alloc(), &[fails])?;
+        assert!(rt; write_on(&mut folder).is_err());
+        assert!(rt; folder.calls() == fails + 1);
+    }
     Ok(())
 }
