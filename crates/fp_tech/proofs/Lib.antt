@@ -3,3 +3,7 @@ pub mod BookLemmas
 pub mod GridLemmas
 pub mod LibraryLemmas
 pub mod NameLemmas
+pub mod RunLemmas
+pub mod SweepLemmas
+pub mod CutLemmas
+pub mod MakingLemmas

@@ -5,7 +5,7 @@ use Rattle.fp_tech.specs.declared.dies.Dies.TheInside.{Inside}
 use Rattle.fp_tech.specs.Plan.{Plan, segments, IsPlan}
 
 abbrev pub plan_of : Inside → Plan
-plan_of d = record { book = d.book; frame = d.frame; top = d.top; bottom = d.bottom; terminal = d.terminal }
+plan_of d = record { book = d.book; frame = d.frame; top = d.top; bottom = d.bottom; terminal = d.terminal; blocks = d.blocks.items }
 
 -- the kept segments are those of the value, which is within the input's ranges
 pub record IsKeptPlan (d : Inside) : Type 0 where

@@ -1,9 +1,13 @@
 pub mod Book
 pub mod BookLaws
+pub mod Cutting
 pub mod KeptBook
 pub mod KeptDies
 pub mod KeptGrid
 pub mod LibNameLaws
+pub mod Rows
+pub mod RunsLaws
+pub mod RowByRowLaws
 pub mod Plan
 pub mod PlanLaws
 pub mod Slots

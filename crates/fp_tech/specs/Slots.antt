@@ -1,5 +1,5 @@
 -- The rules that terminals keep towards the edges and each other, and the grid of slots that keeps them.
-use Rattle.std.specs.Prelude.{◌≡◌, ◌⊎◌, ℕ, ◌+◌, ◌-◌, ◌*◌, ◌/◌, ◌%◌, ◌<◌, ◌≤◌, ◌^◌, nat_le, if◌then◌else◌, pos, ◌+ℤ◌, ◌≤ℤ◌}
+use Rattle.std.specs.Prelude.{◌≡◌, ◌⊎◌, ℕ, ◌+◌, ◌-◌, ◌*◌, ◌/◌, ◌%◌, ◌<◌, ◌≤◌, ◌^◌, nat_le, ◌==◌, if◌then◌else◌, pos, ◌+ℤ◌, ◌≤ℤ◌}
 use Rattle.fp_base.specs.declared.ids.Point.{Point}
 use Rattle.fp_tech.specs.declared.dies.Frame.{Frame}
 use Rattle.fp_tech.specs.declared.dies.TermSpec.{TermSpec}
@@ -48,6 +48,10 @@ up s = axis_count s.frame.lly s.frame.ury (margin s.terminal.size_y s.terminal.s
 
 abbrev pub slot_count : Slots → ℕ
 slot_count s = across s * up s
+
+-- slots of one y; 1 where there is no slot
+abbrev pub stripe_of : Slots → ℕ
+stripe_of s = if slot_count s == 0 then 1 else across s
 
 -- the centre of a column and of a row of slots
 unfoldable pub column_x : Slots → ℕ → ℕ

@@ -1,9 +1,11 @@
 //! The two dies: their frame, their rows, and the terminal that joins them.
 
-ghost use Rattle.std.specs.Prelude.{◌≡◌, ◌+◌, ◌*◌, ◌≤◌, ◌<◌, ◌^◌, IfOk};
-ghost use Rattle.fp_tech.specs.Plan.{Plan, spec_of, rows_lie, rows_of, row_at, segments, IsSetup, IsDieSpec, IsPlan, Makes};
+ghost use Rattle.std.specs.Prelude.{◌≡◌, ◌≤◌};
+ghost use Rattle.fp_tech.specs.Plan.{Plan, spec_of, segments, IsSetup, IsPlan, AreGreatest, Makes};
 
 use crate::book::TechBook;
+use crate::cutting::cut_rows;
+use crate::rows::rows_lie;
 use fp_base::{Die, Side, TechId};
 use std::alloc::{AllocError, Global};
 use std::marker::Model;
@@ -31,15 +33,29 @@ pub struct DieSpec {
     pub repeat: u32,
 }
 
-/// A terminal's size on each axis (1 to 2^30), and the least spacing of two terminals and to the edges.
+/// A terminal's size on each axis (1 to 2^30), the least spacing of two terminals and to the edges, and what each
+/// terminal adds to the score (both up to 2^30). The cost is our own addition to the contest's statement.
 #[derive(Clone, Copy, Debug, PartialEq, Eq)]
 pub struct TermSpec {
     pub size_x: u32,
     pub size_y: u32,
     pub spacing: u32,
+    pub cost: u32,
 }
 
-/// A row's place: cells stand on its y, from `start` over `length`.
+/// A blockage: a rectangle of one die where no cell may stand, by its lower left and its upper right corner, up to 2^30.
+/// It may lie outside the frame, partly or wholly, and blockages may overlap. Blockages are our own addition to the
+/// contest's statement.
+#[derive(Clone, Copy, Debug, PartialEq, Eq)]
+pub struct Block {
+    pub die: Die,
+    pub llx: u32,
+    pub lly: u32,
+    pub urx: u32,
+    pub ury: u32,
+}
+
+/// A piece of a row that no blockage covers: cells stand on its y, from `start` over `length`, which is at least 1.
 #[derive(Clone, Copy, Debug, PartialEq, Eq)]
 pub struct Segment {
     pub y: i64,
@@ -53,6 +69,9 @@ pub enum DiesFault {
     /// The rows of this die leave the frame; the top die is tried first.
     #[error("the rows of the die {0:?} leave the frame")]
     RowsOutside(Die),
+    /// This die has more than 2^16 segments; the top die is tried first.
+    #[error("the die {0:?} has too many segments")]
+    TooMany(Die),
     /// Memory was asked for and refused.
     #[error("out of memory")]
     Memory,
@@ -68,7 +87,8 @@ impl From<AllocError> for DiesFault {
     }
 }
 
-/// The two dies with their technologies, in one frame and with one kind of terminal, and the segments of their rows.
+/// The two dies with their technologies, in one frame and with one kind of terminal, their blockages, and the segments
+/// into which these cut their rows.
 #[derive(Drop)]
 pub struct Dies {
     book: TechBook,
@@ -76,6 +96,7 @@ pub struct Dies {
     top: DieSpec,
     bottom: DieSpec,
     terminal: TermSpec,
+    blocks: Vec<Block>,
     top_segments: Vec<Segment>,
     bottom_segments: Vec<Segment>,
 }
@@ -93,9 +114,10 @@ impl Model for Dies {
 }
 
 impl Dies {
-    /// Dies of a book, a frame, the specification of each die, and a terminal, all within the input's ranges, and the
-    /// dies' technologies in the book. `RowsOutside` exactly where a die's rows leave the frame, the top die first.
-    /// A refusal drops the book.
+    /// Dies of a book, a frame, the specification of each die, a terminal and at most 1,024 blockages, all within the
+    /// input's ranges, and the dies' technologies in the book. `RowsOutside` exactly where a die's rows leave the frame,
+    /// the top die first; else `TooMany` exactly where a die has more than 2^16 segments, the top die first. A refusal
+    /// drops the book.
     pub fn new(
         alloc: Global,
         book: TechBook,
@@ -103,9 +125,10 @@ impl Dies {
         top: DieSpec,
         bottom: DieSpec,
         terminal: TermSpec,
+        blocks: &[Block],
     ) -> Result<Dies, DiesFault>
-        requires { IsSetup (record { book = book; frame = frame; top = top; bottom = bottom; terminal = terminal }) }
-        ensures { Makes (record { book = book; frame = frame; top = top; bottom = bottom; terminal = terminal }) result }
+        requires { IsSetup (record { book = book; frame = frame; top = top; bottom = bottom; terminal = terminal; blocks = blocks.now }) }
+        ensures { Makes (record { book = book; frame = frame; top = top; bottom = bottom; terminal = terminal; blocks = blocks.now }) result }
     {
         if !rows_lie(frame, top) {
             return Err(DiesFault::RowsOutside(Die::Top));
@@ -113,14 +136,16 @@ impl Dies {
         if !rows_lie(frame, bottom) {
             return Err(DiesFault::RowsOutside(Die::Bottom));
         }
-        let top_segments = rows_of(alloc, top)?;
-        let bottom_segments = rows_of(alloc, bottom)?;
+        let top_segments = cut_rows(alloc, Die::Top, top, blocks)?;
+        let bottom_segments = cut_rows(alloc, Die::Bottom, bottom, blocks)?;
+        let blocks = Vec::from_slice(alloc, blocks)?;
         Ok(Dies {
             book,
             frame,
             top,
             bottom,
             terminal,
+            blocks,
             top_segments,
             bottom_segments,
         })
@@ -161,134 +186,33 @@ impl Dies {
         self.terminal
     }
 
+    /// The blockages, in the order in which they were given.
+    pub fn blocks(&self) -> &[Block]
+        ensures blocks { result.now ≡ self.now.blocks }
+        ensures plan { IsPlan self.now }
+    {
+        self.blocks.as_slice()
+    }
+
     /// The segments of the die that a type stands for.
     pub fn segments<S: Side>(&self) -> &[Segment]
         ensures segments { result.now ≡ segments self.now S.DIE }
+        ensures greatest { AreGreatest self.now S.DIE result.now }
         ensures plan { IsPlan self.now }
     {
         self.segments_of(S::DIE)
     }
 
-    /// The segments of a die, numbered upwards from 0: each is one row.
+    /// The segments of a die: the greatest pieces of its rows that no blockage of the die covers, numbered from 0, row by
+    /// row upwards and in a row from the left. Without blockages each is a row.
     pub fn segments_of(&self, die: Die) -> &[Segment]
         ensures segments { result.now ≡ segments self.now die }
+        ensures greatest { AreGreatest self.now die result.now }
         ensures plan { IsPlan self.now }
     {
         match die {
             Die::Top => self.top_segments.as_slice(),
             Die::Bottom => self.bottom_segments.as_slice(),
         }
-    }
-}
-
-// Whether a die's rows lie in the frame.
-fn rows_lie(frame: Frame, spec: DieSpec) -> bool
-    requires start { spec.start_x + spec.length ≤ 2 ^ 31 }
-    requires repeat { spec.repeat ≤ 2 ^ 16 }
-    ensures { result ≡ rows_lie frame spec }
-{
-    let right = spec.start_x + spec.length;
-    let upper = u64::from(spec.start_y) + u64::from(spec.height) * u64::from(spec.repeat);
-    frame.llx <= spec.start_x
-        && right <= frame.urx
-        && frame.lly <= spec.start_y
-        && upper <= u64::from(frame.ury)
-}
-
-// The rows of a die from the lowest up.
-fn rows_of(alloc: Global, spec: DieSpec) -> Result<Vec<Segment>, AllocError>
-    requires repeat { spec.repeat ≤ 2 ^ 16 }
-    ensures { IfOk result (λ rows. rows.items ≡ rows_of spec) }
-{
-    let mut rows = Vec::with_capacity(alloc, spec.repeat as usize)?;
-    for row in 0..spec.repeat {
-        rows.push(row_at(spec, row))?;
-    }
-    Ok(rows)
-}
-
-fn row_at(spec: DieSpec, row: u32) -> Segment
-    requires { row < 2 ^ 16 }
-    ensures { result ≡ row_at spec row }
-{
-    let y = u64::from(spec.start_y) + u64::from(row) * u64::from(spec.height);
-    Segment {
-        y: y as i64,
-        start: i64::from(spec.start_x),
-        length: i64::from(spec.length),
-    }
-}
-
-#[cfg(test)]
-mod tests {
-    use super::*;
-    use crate::grid::Grid;
-    use fp_base::Bottom;
-    use std::process::Abort;
-    use std::test::Fail;
-
-    // Dies of 20 by 20 with four rows that begin at this x.
-    fn dies_at(
-        rt: &impl Abort,
-        alloc: Global,
-        book: TechBook,
-        tech: TechId,
-        start_x: u32,
-    ) -> Result<Dies, DiesFault>
-        requires { start_x ≤ 20 }
-    {
-        let frame = Frame {
-            llx: 0,
-            lly: 0,
-            urx: 20,
-            ury: 20,
-        };
-        let terminal = TermSpec {
-            size_x: 2,
-            size_y: 2,
-            spacing: 1,
-        };
-        let spec = DieSpec {
-            percent: 80,
-            tech,
-            start_x,
-            start_y: 0,
-            length: 20,
-            height: 5,
-            repeat: 4,
-        };
-        assert!(rt; tech.0 < book.techs());
-        Dies::new(alloc, book, frame, spec, spec, terminal)
-    }
-
-    #[test]
-    fn rows_and_refusals(rt: HostRuntime) -> Result<(), Fail> {
-        let mut book = TechBook::new(rt.alloc());
-        let tech = book.add_tech(b"TA")?;
-        let dies = dies_at(&rt, rt.alloc(), book, tech, 0)?;
-        let rows = dies.segments::<Bottom>();
-        assert_eq!(&rt; dies.segments_of(Die::Bottom), rows);
-        assert_eq!(&rt; rows.len(), 4);
-        assert_eq!(&rt;
-            rows[3],
-            Segment {
-                y: 15,
-                start: 0,
-                length: 20
-            }
-        );
-        assert_eq!(&rt; Grid::of(&dies).slots(), 36);
-        Ok(())
-    }
-
-    #[test]
-    fn rows_that_leave(rt: HostRuntime) -> Result<(), Fail> {
-        let mut book = TechBook::new(rt.alloc());
-        let tech = book.add_tech(b"TA")?;
-        match dies_at(&rt, rt.alloc(), book, tech, 1) {
-            Ok(_dies) => assert!(&rt; false, "they leave the frame"),
-            Err(fault) => assert_eq!(&rt; fault, DiesFault::RowsOutside(Die::Top)),
-        }
-        Ok(())
     }
 }

@@ -2,7 +2,7 @@
 
 ghost use Rattle.std.specs.Prelude.{◌≡◌, ℕ, ◌+◌, ◌*◌, ◌<◌, ◌≤◌, ◌^◌, ◌↔◌, IsTrue, pos};
 ghost use Rattle.fp_tech.specs.Plan.{IsFrame, IsTermSpec};
-ghost use Rattle.fp_tech.specs.Slots.{Slots, margin, axis_count, pitch_x, pitch_y, across, up, slot_count, slot_limit, centre_of, grid_with, IsGrid, IsLeast, CountsAreExact, KeepsEdges, AreApart};
+ghost use Rattle.fp_tech.specs.Slots.{Slots, margin, axis_count, pitch_x, pitch_y, across, up, slot_count, stripe_of, slot_limit, centre_of, grid_with, IsGrid, IsLeast, CountsAreExact, KeepsEdges, AreApart};
 
 use crate::dies::{Dies, Frame, TermSpec};
 use fp_base::{Point, SlotId};
@@ -42,6 +42,8 @@ impl Model for Grid {
 }
 
 impl Clone for Grid {
+    ghost is_clone = { λ old new. new ≡ old };
+
     fn clone(&self) -> Result<Self, AllocError> {
         Ok(*self)
     }
@@ -54,7 +56,7 @@ impl Grid {
     /// from each other.
     pub fn of(dies: &Dies) -> Grid
         ensures grid { IsGrid dies.now.frame dies.now.terminal result }
-        ensures counts { CountsAreExact result }
+        ensures counts { (stride : ℕ) → 1 ≤ stride → CountsAreExact (grid_with dies.now.frame dies.now.terminal stride) }
         ensures edges { (s : ℕ) → s < slot_count result → KeepsEdges dies.now.frame dies.now.terminal (centre_of result s) }
         ensures apart { (s t : ℕ) → s < t → t < slot_count result
             → AreApart dies.now.terminal (centre_of result s) (centre_of result t) }
@@ -70,11 +72,11 @@ impl Grid {
         self.across * self.up
     }
 
-    /// The number of slots in a row.
+    /// The number of slots of one y, 1 where there is no slot.
     pub fn across(&self) -> u32
-        ensures { result ≡ across self.now }
+        ensures { result ≡ stripe_of self.now }
     {
-        self.across
+        if self.slots() == 0 { 1 } else { self.across }
     }
 
     /// The centre of a slot, which is below `slots`.
@@ -100,7 +102,7 @@ fn grid_of(frame: Frame, terminal: TermSpec) -> Grid
     requires frame { IsFrame frame }
     requires terminal { IsTermSpec terminal }
     ensures grid { IsGrid frame terminal result }
-    ensures counts { CountsAreExact result }
+    ensures counts { (stride : ℕ) → 1 ≤ stride → CountsAreExact (grid_with frame terminal stride) }
     ensures edges { (s : ℕ) → s < slot_count result → KeepsEdges frame terminal (centre_of result s) }
     ensures apart { (s t : ℕ) → s < t → t < slot_count result
         → AreApart terminal (centre_of result s) (centre_of result t) }
@@ -235,12 +237,14 @@ mod tests {
             size_x: 2,
             size_y: 2,
             spacing: 1,
+            cost: 0,
         };
         expect_slot(&rt, frame, terminal, 36, 7, Point { x: 5, y: 5 });
         let wide = TermSpec {
             size_x: 10,
             size_y: 10,
             spacing: 4,
+            cost: 0,
         };
         expect_slot(&rt, frame, wide, 1, 0, Point { x: 9, y: 9 });
         let tight = Frame {
@@ -264,6 +268,7 @@ mod tests {
             size_x: 1,
             size_y: 1,
             spacing: 1,
+            cost: 0,
         };
         expect_slot(&rt, frame, terminal, 1_048_576, 0, Point { x: 2, y: 2 });
         expect_slot(

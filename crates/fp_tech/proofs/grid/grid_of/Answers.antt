@@ -3,8 +3,7 @@ use Rattle.fp_tech.specs.SlotsLaws.{counts_exact, slot_keeps_edges, slots_apart}
 use Rattle.fp_tech.proofs.grid.grid_of.Goals as goal
 
 pub returns-clause-counts : goal.returns-clause-counts
-returns-clause-counts c =
-    counts_exact (grid_with c.args.frame c.args.terminal c.least_stride-stride.result) c.requires.terminal c.least_stride-stride.ensures.some
+returns-clause-counts c = λ stride some. counts_exact (grid_with c.args.frame c.args.terminal stride) c.requires.terminal some
 
 pub returns-clause-edges : goal.returns-clause-edges
 returns-clause-edges c =
