@@ -53,6 +53,7 @@ fn two_dies(rt: &impl Abort, alloc: Global, book: TechBook) -> Result<Dies, Fail
         size_x: 2,
         size_y: 2,
         spacing: 1,
+        cost: 0,
     };
     assert!(rt; book.techs() == 2);
     let top = DieSpec {
@@ -69,7 +70,7 @@ fn two_dies(rt: &impl Abort, alloc: Global, book: TechBook) -> Result<Dies, Fail
         height: 6,
         ..top
     };
-    Ok(Dies::new(alloc, book, frame, top, bottom, terminal)?)
+    Ok(Dies::new(alloc, book, frame, top, bottom, terminal, &[])?)
 }
 
 /// Two inverters and a net that joins them, one of them by two connections of a pin.
@@ -90,16 +91,28 @@ fn fill(builder: &mut ProblemBuilder, inverter: LibId) -> Result<(), BuildFault>
 /// A builder over the two dies, with the two library cells.
 fn small_builder(rt: &impl Abort, alloc: Global) -> Result<(ProblemBuilder, LibId, LibId), Fail> {
     let mut book = TechBook::new(alloc);
-    let (inverter, buffer) = two_technologies(rt, &mut book)?;
-    let dies = two_dies(rt, alloc, book)?;
-    Ok((ProblemBuilder::new(alloc, dies), inverter, buffer))
+    match two_technologies(rt, &mut book) {
+        Ok((inverter, buffer)) => {
+            let dies = two_dies(rt, alloc, book)?;
+            Ok((ProblemBuilder::new(alloc, dies), inverter, buffer))
+        }
+        Err(fault) => {
+            drop(book);
+            Err(Fail::new(fault))
+        }
+    }
 }
 
 /// Two inverters and a net that joins them.
 fn small_problem(rt: &impl Abort, alloc: Global) -> Result<Problem, Fail> {
     let (mut builder, inverter, _buffer) = small_builder(rt, alloc)?;
-    fill(&mut builder, inverter)?;
-    Ok(builder.finish()?)
+    match fill(&mut builder, inverter) {
+        Ok(()) => Ok(builder.finish()?),
+        Err(fault) => {
+            drop(builder);
+            Err(Fail::new(fault))
+        }
+    }
 }
 
 #[test]
@@ -107,25 +120,32 @@ fn cells_of_two_technologies(rt: HostRuntime) -> Result<(), Fail> {
     let problem = small_problem(&rt, rt.alloc())?;
     names_and_links(&rt, &problem);
     sizes_and_offsets(&rt, &problem);
+    drop(problem);
     Ok(())
 }
 
 #[test]
 fn refusals_of_a_builder(rt: HostRuntime) -> Result<(), Fail> {
     let (mut builder, inverter, buffer) = small_builder(&rt, rt.alloc())?;
-    fill(&mut builder, inverter)?;
-    assert_eq!(&rt; builder.cell_named(b"u2"), Some(CellId(1)));
-    assert_eq!(&rt; builder.net_named(b"n2"), None);
-    assert!(&rt; builder.cells() == 2 && builder.nets() == 1 && builder.conns() == 3);
-    assert_eq!(&rt;
-        refused(&mut builder, b"u3", buffer),
-        Some(BuildFault::Unknown)
-    );
-    assert_eq!(&rt;
-        refused(&mut builder, b"u2", buffer),
-        Some(BuildFault::Twice)
-    );
-    assert_eq!(&rt; builder.add_net(b"n1").err(), Some(BuildFault::Twice));
+    let done = refusals(&rt, &mut builder, inverter, buffer);
+    drop(builder);
+    Ok(done?)
+}
+
+/// Fills a builder, and adds what it refuses.
+fn refusals(
+    rt: &impl Abort,
+    builder: &mut ProblemBuilder,
+    inverter: LibId,
+    buffer: LibId,
+) -> Result<(), BuildFault> {
+    fill(builder, inverter)?;
+    assert!(rt; builder.cell_named(b"u2") == Some(CellId(1)));
+    assert!(rt; builder.net_named(b"n2").is_none());
+    assert!(rt; builder.cells() == 2 && builder.nets() == 1 && builder.conns() == 3);
+    assert!(rt; refused(builder, b"u3", buffer) == Some(BuildFault::Unknown));
+    assert!(rt; refused(builder, b"u2", buffer) == Some(BuildFault::Twice));
+    assert!(rt; builder.add_net(b"n1").err() == Some(BuildFault::Twice));
     Ok(())
 }
 
