@@ -25,7 +25,7 @@ told_first count holds rule subject number fault e is = told count holds rule su
 pub of_memory : (count : ℕ) (holds : ℕ → Type 0) (rule : ℕ) (subject : ℕ → Subject) (fault : Fault) → fault ≡ Memory → IsFaultOf count holds rule subject fault
 of_memory count holds rule subject fault e = subst (IsFaultOf count holds rule subject) (sym e) tt
 
--- the same of what holds alike
+-- the first number that breaks a rule is that of a rule that holds alike
 pub first_alike : (count : ℕ) (holds other : ℕ → Type 0) (number : ℕ) → ((n : ℕ) → n < count → holds n → other n) → ((n : ℕ) → n < count → other n → holds n)
     → IsFirst count holds number → IsFirst count other number
 first_alike count holds other number to from is = record {

@@ -27,7 +27,7 @@ use Rattle.fp_place.specs.Breaks.{RightTerminals, FromEdges, FromOthers}
 use Rattle.fp_place.specs.Seen.{Tells, place_seen}
 use Rattle.fp_place.specs.FirstFaults.{IsFaultOf, IsFirstFault, FindsFirst, HoldBelow, net_subject, earlier}
 use Rattle.fp_place.specs.Joining.{is_joined, IsJoined, AreCentres, AreJoined, CentreKeepsEdges, strangers, IsApartFrom, IsAlone, AreInRange, AreTerminals}
-use Rattle.fp_place.proofs.SeenLemmas.{count_yes, count_no, find_yes, find_no}
+use Rattle.fp_place.specs.DrawnLaws.{count_yes, count_no, find_yes, find_no}
 use Rattle.fp_place.proofs.FaultLemmas.{one_more, first_fault, fault_alike, first_of_both}
 
 -- what is seen of a net
@@ -171,7 +171,7 @@ pub centre_line : (nets : ℕ) (lines : List DrawnTerminal) (centres : List (Opt
 centre_line nets lines centres net point P are e all =
     found_line P net point (find (is_net net) lines) (sym (are.centre net (within_nets nets lines centres net point are e)) ∙ e) (find_some P (is_net net) lines all)
 
--- and the centre of a net's line is the net's
+-- the centre of a net's line is the net's
 pub line_centre : (nets : ℕ) (lines : List DrawnTerminal) (centres : List (Option Point)) → AreCentres nets lines centres → (net : ℕ) → net < nets
     → All (λ line. line.net.0 ≡ net → get_or centres net None ≡ Some (centre_of line)) lines
 line_centre nets lines centres are net below =

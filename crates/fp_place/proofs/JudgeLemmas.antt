@@ -13,46 +13,46 @@ use Rattle.fp_place.specs.BreaksLaws.{all_hold, few_rules}
 use Rattle.fp_place.specs.FirstFaults.{HoldBelow, IsFirstFault}
 use Rattle.fp_place.specs.Standing.{AreStanding}
 use Rattle.fp_place.specs.Joining.{AreTerminals}
-use Rattle.fp_place.specs.LinedUp.{AreOnRows, AreLinedUp, AreClear, IsFaultAfter, IsLaid}
+use Rattle.fp_place.specs.LinedUp.{AreOnSegments, AreLinedUp, AreClear, IsFaultAfter, IsLaid}
 
-pub many_standing : (p : Netlist) (drawing : Drawing) (places given : List Place) (rows : List ℕ) → given ≡ places → AreStanding p drawing places rows → length given ≡ length p.cells
-many_standing p drawing places given rows e standing = ap length (e ∙ standing.places_are) ∙ length-map-range_with_len (place_in drawing) 0 (length p.cells)
+pub many_standing : (p : Netlist) (drawing : Drawing) (places given : List Place) (numbers : List ℕ) → given ≡ places → AreStanding p drawing places numbers → length given ≡ length p.cells
+many_standing p drawing places given numbers e standing = ap length (e ∙ standing.places_are) ∙ length-map-range_with_len (place_in drawing) 0 (length p.cells)
 
-pub rows_standing : (p : Netlist) (drawing : Drawing) (places given : List Place) (rows given_rows : List ℕ) → given ≡ places → given_rows ≡ rows → AreStanding p drawing places rows
-    → AreOnRows p given given_rows
-rows_standing p drawing places given rows given_rows e r standing =
-    subst (λ ps. AreOnRows p ps given_rows) (sym e) (subst (AreOnRows p places) (sym r) standing.on_rows)
+pub numbers_standing : (p : Netlist) (drawing : Drawing) (places given : List Place) (numbers given_numbers : List ℕ) → given ≡ places → given_numbers ≡ numbers → AreStanding p drawing places numbers
+    → AreOnSegments p given given_numbers
+numbers_standing p drawing places given numbers given_numbers e r standing =
+    subst (λ ps. AreOnSegments p ps given_numbers) (sym e) (subst (AreOnSegments p places) (sym r) standing.on_segments)
 
-pub settled_broken : (p : Netlist) (drawing : Drawing) (places given : List Place) (rows : List ℕ) (fault : Fault) → given ≡ places → AreStanding p drawing places rows
+pub settled_broken : (p : Netlist) (drawing : Drawing) (places given : List Place) (numbers : List ℕ) (fault : Fault) → given ≡ places → AreStanding p drawing places numbers
     → IsFaultAfter p given fault → IsFirstFault p drawing (places_in drawing (length p.cells)) fault
-settled_broken p drawing places given rows fault e standing is =
+settled_broken p drawing places given numbers fault e standing is =
     subst (λ ps. IsFirstFault p drawing ps fault) standing.places_are (subst (λ ps. IsFaultAfter p ps fault) e is drawing standing.holds)
 
 -- the first six rules hold
-pub six_hold : (p : Netlist) (drawing : Drawing) (places given again : List Place) (rows given_rows : List ℕ) (top bottom : LaneList) → given ≡ places → again ≡ places
-    → AreStanding p drawing places rows → AreClear p given given_rows top bottom → HoldBelow p drawing again 7
-six_hold p drawing places given again rows given_rows top bottom e a standing clear =
+pub six_hold : (p : Netlist) (drawing : Drawing) (places given again : List Place) (numbers given_numbers : List ℕ) (top bottom : LaneList) → given ≡ places → again ≡ places
+    → AreStanding p drawing places numbers → AreClear p given given_numbers top bottom → HoldBelow p drawing again 7
+six_hold p drawing places given again numbers given_numbers top bottom e a standing clear =
     subst (λ ps. HoldBelow p drawing ps 7) (sym a)
-    ((subst (λ ps. AreClear p ps given_rows top bottom) e clear).holds drawing standing.holds)
+    ((subst (λ ps. AreClear p ps given_numbers top bottom) e clear).holds drawing standing.holds)
 
-pub joined_broken : (p : Netlist) (drawing : Drawing) (places given again : List Place) (rows given_rows : List ℕ) (top bottom : LaneList) (fault : Fault) → given ≡ places → again ≡ places
-    → AreStanding p drawing places rows → AreClear p given given_rows top bottom → (HoldBelow p drawing again 7 → IsFirstFault p drawing again fault)
+pub joined_broken : (p : Netlist) (drawing : Drawing) (places given again : List Place) (numbers given_numbers : List ℕ) (top bottom : LaneList) (fault : Fault) → given ≡ places → again ≡ places
+    → AreStanding p drawing places numbers → AreClear p given given_numbers top bottom → (HoldBelow p drawing again 7 → IsFirstFault p drawing again fault)
     → IsFirstFault p drawing (places_in drawing (length p.cells)) fault
-joined_broken p drawing places given again rows given_rows top bottom fault e a standing clear is =
+joined_broken p drawing places given again numbers given_numbers top bottom fault e a standing clear is =
     subst (λ ps. IsFirstFault p drawing ps fault) (a ∙ standing.places_are)
-    (is (six_hold p drawing places given again rows given_rows top bottom e a standing clear))
+    (is (six_hold p drawing places given again numbers given_numbers top bottom e a standing clear))
 
-pub lined_up : (p : Netlist) (drawing : Drawing) (places given again : List Place) (rows given_rows : List ℕ) (top bottom : LaneList) → given ≡ places → again ≡ places → given_rows ≡ rows
-    → AreStanding p drawing places rows → AreClear p given given_rows top bottom → AreLinedUp p again top bottom
-lined_up p drawing places given again rows given_rows top bottom e a r standing clear =
+pub lined_up : (p : Netlist) (drawing : Drawing) (places given again : List Place) (numbers given_numbers : List ℕ) (top bottom : LaneList) → given ≡ places → again ≡ places → given_numbers ≡ numbers
+    → AreStanding p drawing places numbers → AreClear p given given_numbers top bottom → AreLinedUp p again top bottom
+lined_up p drawing places given again numbers given_numbers top bottom e a r standing clear =
     subst (λ ps. AreLinedUp p ps top bottom) (e ∙ sym a)
-    (record { rows = given_rows; on_rows = rows_standing p drawing places given rows given_rows e r standing; lined = clear.lined })
+    (record { numbers = given_numbers; on_segments = numbers_standing p drawing places given numbers given_numbers e r standing; lined = clear.lined })
 
-pub is_legal : (p : Netlist) (drawing : Drawing) (places given again laid_at : List Place) (rows given_rows : List ℕ) (top bottom : LaneList) (centres laid_centres : List (Option Point)) (placed : Placed)
-    → given ≡ places → again ≡ places → laid_at ≡ places → laid_centres ≡ centres → AreStanding p drawing places rows → AreClear p given given_rows top bottom
+pub is_legal : (p : Netlist) (drawing : Drawing) (places given again laid_at : List Place) (numbers given_numbers : List ℕ) (top bottom : LaneList) (centres laid_centres : List (Option Point)) (placed : Placed)
+    → given ≡ places → again ≡ places → laid_at ≡ places → laid_centres ≡ centres → AreStanding p drawing places numbers → AreClear p given given_numbers top bottom
     → AreTerminals p drawing again centres → IsLaid p laid_at laid_centres placed → Judges p drawing (judged.Legal placed)
-is_legal p drawing places given again laid_at rows given_rows top bottom centres laid_centres placed e a l cs standing clear terminals laid =
-    let holds : HoldBelow p drawing again 10 = terminals.holds (six_hold p drawing places given again rows given_rows top bottom e a standing clear) in
+is_legal p drawing places given again laid_at numbers given_numbers top bottom centres laid_centres placed e a l cs standing clear terminals laid =
+    let holds : HoldBelow p drawing again 10 = terminals.holds (six_hold p drawing places given again numbers given_numbers top bottom e a standing clear) in
     let all : HoldBelow p drawing (places_in drawing (length p.cells)) 10 = subst (λ ps. HoldBelow p drawing ps 10) (a ∙ standing.places_are) holds in (
       all_hold p drawing (places_in drawing (length p.cells)) (λ rule. all rule (omega (arith, few_rules rule))),
       record {

@@ -1,19 +1,19 @@
 -- Over both dies: the cells that overlap no other, and lanes whose cells stand between two ends.
-use Rattle.std.specs.Prelude.{◌≡◌, ◌≢◌, ℕ, suc, ◌+◌, ◌*◌, ◌<◌, ◌≤◌, List, [], ◌∷◌, length, All, AllPairs, get_or, slice_get, Option, Some, None, ℤ, pos, ◌+ℤ◌, ◌≤ℤ◌, ◌⊎◌, Ok, Err}
+use Rattle.std.specs.Prelude.{◌≡◌, ◌≢◌, ℕ, suc, ◌<◌, List, [], ◌∷◌, length, All, AllPairs, get_or, slice_get, Option, Some, None, ℤ, pos, ◌+ℤ◌, ◌≤ℤ◌, ◌⊎◌, Ok, Err}
 use Rattle.std.proofs.Common.{sym, ap, subst, ◌∙◌, arith, inl, inr}
-use Rattle.std.proofs.lemmas.Bool.{cases_order, leb-true}
+use Rattle.std.proofs.lemmas.Bool.{cases_order}
 use Rattle.std.proofs.lemmas.Int.{ints, by_lt_z}
-use Rattle.std.proofs.lemmas.Nat.{mul-le}
 use Rattle.std.proofs.lemmas.Option.{same_Some, slice_get-get_or, slice_get_within, get_or_from_slice_get}
 use Rattle.fp_base.specs.declared.ids.CellId.{CellId}
 use Rattle.fp_base.specs.declared.ids.Die.{Die}
 use Rattle.fp_base.specs.declared.ids.Die.TheVariants.{Top, Bottom}
 use Rattle.fp_tech.specs.declared.dies.Segment.{Segment}
-use Rattle.fp_tech.specs.Plan.{Plan, IsPlan, IsDieSpec, segments, spec_of, row_at}
-use Rattle.fp_tech.specs.PlanLaws.{length-segments, segment_at, few_segments}
+use Rattle.fp_tech.specs.Plan.{segments}
+use Rattle.fp_tech.specs.PlanLaws.{few_segments}
+use Rattle.fp_place.specs.PlacedLaws.{segment_in_range}
 use Rattle.fp_netlist.specs.Netlist.{Netlist, IsSound}
 use Rattle.fp_netlist.specs.NetlistLaws.{lib_within}
-use Rattle.fp_netlist.specs.Points.{width, height}
+use Rattle.fp_netlist.specs.Points.{width}
 use Rattle.fp_place.specs.declared.lined.Lined.{Lined}
 use Rattle.fp_place.specs.Places.{Place, place_at}
 use Rattle.fp_place.specs.Legal.{Overlap, IsClear}
@@ -23,17 +23,12 @@ use Rattle.fp_place.specs.LaneOrder.{AreRanked, IsOnLane}
 use Rattle.fp_place.specs.LaneOverlaps.{OverlapsSome, AreLanes, IsLane, IsOnRowAt, IsFirst, Meets, MeetsOn, IsApartOn, IsAmong, IsAmongLanes, cell_at, no_cell, earlier}
 use Rattle.fp_place.proofs.LinFirst.{first_weaker, first_joined}
 use Rattle.fp_place.proofs.LinRank.{AreMade, are_ranked, entry_owned, entry_from, entry_in}
-use Rattle.fp_place.proofs.LinReach.{x_at, end_at, overlap_behind, overlap_swapped}
+use Rattle.fp_place.proofs.LinReach.{x_at, end_at, overlap_behind}
+use Rattle.fp_place.specs.ClearLaws.{overlap_swapped, segments_clear}
 
--- a segment is its row
-segment_is : (plan : Plan) (die : Die) (number : ℕ) (segment : Segment) → slice_get (segments plan die) number ≡ Some segment → segment ≡ row_at (spec_of plan die) number
-segment_is plan die number segment there =
-    let below = slice_get_within (segments plan die) number segment there in
-    same_Some segment (row_at (spec_of plan die) number) (sym there ∙ segment_at plan die number (omega (arith, below, length-segments plan die)))
-
-spec_within : (plan : Plan) → IsPlan plan → (die : Die) → IsDieSpec (length plan.book.techs) (spec_of plan die)
-spec_within plan is Top = is.setup.top
-spec_within plan is Bottom = is.setup.bottom
+-- the segment that stands for one that is not there
+abbrev no_segment : Segment
+no_segment = record { y = pos 0; start = pos 0; length = pos 0 }
 
 lanes_many : (p : Netlist) (places : List Place) (top bottom : LaneList) → AreRanked p places top bottom → (die : Die) → length (lanes_on top bottom die) ≡ length (segments p.plan die)
 lanes_many p places top bottom ranked Top = ranked.top_lanes
@@ -44,34 +39,39 @@ cell_entry : (lanes : LaneList) (number : ℕ) (lane : List CellId) → slice_ge
     → entry_at lanes number rank ≡ Some (cell_at lane rank)
 cell_entry lanes number lane there rank below = entry_from lanes number rank lane (cell_at lane rank) there (slice_get-get_or lane rank no_cell below)
 
-cell_on_row : (p : Netlist) (places : List Place) (die : Die) (number cell : ℕ) → IsSound p → cell < length p.cells → IsOnLane p places die number cell
-    → IsOnRowAt p places die (row_at (spec_of p.plan die) number).y cell
-cell_on_row p places die number cell sound below on =
-    let is = segment_is p.plan die number on.segment on.there in
-    let spec = spec_within p.plan sound.plan die in
+cell_on_row : (p : Netlist) (places : List Place) (die : Die) (number cell : ℕ) (segment : Segment) → IsSound p → cell < length p.cells → IsOnLane p places die number cell
+    → slice_get (segments p.plan die) number ≡ Some segment → IsOnRowAt p places die segment.y cell
+cell_on_row p places die number cell segment sound below on there =
+    let same : on.segment ≡ segment = same_Some on.segment segment (sym on.there ∙ there) in
+    let lies = segment_in_range p.plan sound.plan die number on.segment on.there in
     let begins = on.stands.starts in
     let finishes = on.stands.ends in
-    let far_left = spec.start_x in
-    let long = spec.length in
+    let least = lies.start.least in
+    let most = lies.end.most in
     record {
       within = below;
       die_is = on.die_is;
-      row = on.stands.row ∙ ap (λ s. s.y) is;
-      least = omega (arith, ints, begins, ap (λ s. s.start) is);
-      most = omega (arith, ints, finishes, ap (λ s. s.start) is, ap (λ s. s.length) is, far_left, long);
+      row = on.stands.row ∙ ap (λ s. s.y) same;
+      least = omega (arith, ints, begins, least);
+      most = omega (arith, ints, finishes, most);
       some_width = (lib_within p cell die sound below).some_width;
       some_height = (lib_within p cell die sound below).some_height;
     }
 
 pub lane_ranked : (p : Netlist) (places : List Place) (top bottom : LaneList) → IsSound p → AreRanked p places top bottom → (die : Die) (number : ℕ) (lane : List CellId)
     → slice_get (lanes_on top bottom die) number ≡ Some lane → IsLane p places die lane
-lane_ranked p places top bottom sound ranked die number lane there = record {
-  y = (row_at (spec_of p.plan die) number).y;
-  cells = λ rank below.
-      let entry = cell_entry (lanes_on top bottom die) number lane there rank below in
-      cell_on_row p places die number (cell_at lane rank).0 sound (ranked.once.within die number rank (cell_at lane rank) entry) (ranked.on_lane die number rank (cell_at lane rank) entry);
-  rising = λ i j less below. ranked.rising die number lane there i j no_cell less below;
-}
+lane_ranked p places top bottom sound ranked die number lane there =
+    let within : number < length (segments p.plan die) = omega (arith, slice_get_within (lanes_on top bottom die) number lane there, lanes_many p places top bottom ranked die) in
+    let segment : Segment = get_or (segments p.plan die) number no_segment in
+    let segment_there : slice_get (segments p.plan die) number ≡ Some segment = slice_get-get_or (segments p.plan die) number no_segment within in
+    record {
+      y = segment.y;
+      cells = λ rank below.
+          let entry = cell_entry (lanes_on top bottom die) number lane there rank below in
+          cell_on_row p places die number (cell_at lane rank).0 segment sound (ranked.once.within die number rank (cell_at lane rank) entry) (ranked.on_lane die number rank (cell_at lane rank) entry)
+          segment_there;
+      rising = λ i j less below. ranked.rising die number lane there i j no_cell less below;
+    }
 
 pub lanes_ranked : (p : Netlist) (places : List Place) (top bottom : LaneList) → IsSound p → AreRanked p places top bottom → (die : Die) → AreLanes p places die (lanes_on top bottom die)
 lanes_ranked p places top bottom sound ranked die = record {
@@ -107,22 +107,6 @@ met_not_clear p places top bottom ranked die cell on = (
     differs same = on.meets.apart (ranked.once.one_rank die die on.number on.number on.meets.rank on.meets.other cell here
         (there ∙ ap (λ (n : ℕ). Some (let c : CellId = record { 0 = n } in c)) same))
 
--- a lower row ends below a higher one
-rows_apart : (start height low high tall : ℕ) → low < high → tall ≤ height → start + low * height + tall ≤ start + high * height
-rows_apart start height low high tall less fits = omega (arith, mul-le (low + 1) height high height (omega arith) (omega arith))
-
--- cells on two rows of a die do not overlap
-rows_clear : (p : Netlist) (places : List Place) (die : Die) (low high a b : ℕ) → low < high → IsOnLane p places die low a → IsOnLane p places die high b → Overlap p places a b → ⊥
-rows_clear p places die low high a b less here there over =
-    let spec = spec_of p.plan die in
-    let tall : height p a (place_at places a).die ≡ height p a die = ap (λ d. height p a d) here.die_is in
-    let fit = leb-true (height p a die) spec.height here.fitting in
-    let apart = rows_apart spec.start_y spec.height low high (height p a die) less fit in
-    let row_here = here.stands.row ∙ ap (λ s. s.y) (segment_is p.plan die low here.segment here.there) in
-    let row_there = there.stands.row ∙ ap (λ s. s.y) (segment_is p.plan die high there.segment there.there) in
-    let over_high = over.high in
-    omega (arith, ints, apart, tall, row_here, row_there, over_high)
-
 -- a cell that stands apart on its lane is clear
 pub apart_clear : (p : Netlist) (places : List Place) (top bottom : LaneList) → AreRanked p places top bottom → (die : Die) (cell : CellId)
     → IsApartOn p places (lanes_on top bottom die) cell → IsClear p places cell.0
@@ -156,8 +140,8 @@ apart_clear p places top bottom ranked die cell on other other_below differs ove
         subst (λ (l : List CellId). slice_get l there.2 ≡ Some (record { 0 = other })) (sym (get_or_from_slice_get (lanes_on top bottom die) on.number found.lane [] found.there)) found.at in
         let is : (cell_at lane there.2).0 ≡ other = ap (λ (c : CellId). c.0) (get_or_from_slice_get lane there.2 (record { 0 = other }) no_cell at) in
         on.apart there.2 (slice_get_within lane there.2 (record { 0 = other }) at) (λ e. differs (sym is ∙ e)) (subst (λ n. Overlap p places cell.0 n) (sym is) over)
-    by (inr (inl lower)) = rows_clear p places die on.number there.1 cell.0 other lower on_here on_there over
-    by (inr (inr higher)) = rows_clear p places die there.1 on.number other cell.0 higher on_there on_here (overlap_swapped p places cell.0 other over)
+    by (inr (inl lower)) = segments_clear p places die on.number there.1 cell.0 other lower on_here on_there over
+    by (inr (inr higher)) = segments_clear p places die there.1 on.number other cell.0 higher on_there on_here (overlap_swapped p places cell.0 other over)
 
 -- the first over both dies
 first_on_die : (p : Netlist) (places : List Place) (top bottom : LaneList) → AreRanked p places top bottom → (die : Die) (first : Option CellId)
@@ -213,7 +197,7 @@ pub lane_in_order : (p : Netlist) (places : List Place) (top bottom : LaneList) 
     → StandBetween p die places segment.start (segment.start +ℤ segment.length) lane
 lane_in_order p places top bottom sound ranked clear die number segment lane segment_there lane_there =
     stand_between p places die segment.start (segment.start +ℤ segment.length) lane
-    (omega (arith, ints, ap (λ s. s.length) (segment_is p.plan die number segment segment_there)))
+    (let some = (segment_in_range p.plan sound.plan die number segment segment_there).some in omega (arith, ints, some))
     (λ k d below. subst (λ (c : CellId). segment.start ≤ℤ (place_at places c.0).x) (at k d below) (starts k below))
     (λ k d below. subst (λ (c : CellId). ((place_at places c.0).x +ℤ pos (width p c.0 die)) ≤ℤ (segment.start +ℤ segment.length)) (at k d below) (ends k below))
     (λ i j d less below. subst (λ (c : CellId). ((place_at places (get_or lane i d).0).x +ℤ pos (width p (get_or lane i d).0 die)) ≤ℤ (place_at places c.0).x) (at j d below)
@@ -251,28 +235,28 @@ lane_in_order p places top bottom sound ranked clear die number segment lane seg
             omega (arith, one, less)
 
 -- what is returned
-pub lined_up : (p : Netlist) (places : List Place) (rows : List ℕ) (order : List CellId) (lined : Lined) → IsSound p → AreMade p places rows order lined.top lined.bottom
-    → IsFirst (OverlapsSome p places) (λ cell. IsClear p places cell.0) (λ cell. cell.0 < length p.cells) None → LinesUp p places rows (Ok lined)
-lined_up p places rows order lined sound made is = (
+pub lined_up : (p : Netlist) (places : List Place) (numbers : List ℕ) (order : List CellId) (lined : Lined) → IsSound p → AreMade p places numbers order lined.top lined.bottom
+    → IsFirst (OverlapsSome p places) (λ cell. IsClear p places cell.0) (λ cell. cell.0 < length p.cells) None → LinesUp p places numbers (Ok lined)
+lined_up p places numbers order lined sound made is = (
   clear,
   record {
     top_lanes = ranked.top_lanes;
     bottom_lanes = ranked.bottom_lanes;
     once = ranked.once;
-    own_die = λ die segment rank cell e. (entry_owned p places rows order lined.top lined.bottom made die segment rank cell e).die_is;
-    own_row = λ die segment rank cell e. (entry_owned p places rows order lined.top lined.bottom made die segment rank cell e).row_is;
+    own_die = λ die segment rank cell e. (entry_owned p places numbers order lined.top lined.bottom made die segment rank cell e).die_is;
+    own_segment = λ die segment rank cell e. (entry_owned p places numbers order lined.top lined.bottom made die segment rank cell e).number_is;
     in_order = lane_in_order p places lined.top lined.bottom sound ranked clear;
   },
 )
   where
     ranked : AreRanked p places lined.top lined.bottom
-    ranked = are_ranked p places rows order lined.top lined.bottom made
+    ranked = are_ranked p places numbers order lined.top lined.bottom made
 
     clear : (cell : ℕ) → cell < length p.cells → IsClear p places cell
     clear cell below = is.kept (record { 0 = cell }) below tt
 
-pub first_told : (p : Netlist) (places : List Place) (rows : List ℕ) (cell : CellId)
-    → IsFirst (OverlapsSome p places) (λ c. IsClear p places c.0) (λ c. c.0 < length p.cells) (Some cell) → LinesUp p places rows (Err cell)
-first_told p places rows cell is =
+pub first_told : (p : Netlist) (places : List Place) (numbers : List ℕ) (cell : CellId)
+    → IsFirst (OverlapsSome p places) (λ c. IsClear p places c.0) (λ c. c.0 < length p.cells) (Some cell) → LinesUp p places numbers (Err cell)
+first_told p places numbers cell is =
     let below = is.broken.0 in
     (is.broken.0, is.broken.1, λ before less. is.kept (record { 0 = before }) (omega (arith, below, less)) less)

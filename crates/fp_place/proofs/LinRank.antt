@@ -8,27 +8,17 @@ use Rattle.std.proofs.lemmas.List.Kept.{AllPairs-filter}
 use Rattle.std.proofs.lemmas.Option.{option_and_then_some, slice_get-get_or, slice_get_within, get_or_from_slice_get}
 use Rattle.fp_base.specs.declared.ids.CellId.{CellId}
 use Rattle.fp_base.specs.declared.ids.Die.{Die}
-use Rattle.fp_base.specs.declared.ids.Die.TheVariants.{Top, Bottom}
 use Rattle.fp_tech.specs.Plan.{segments}
 use Rattle.fp_netlist.specs.Netlist.{Netlist}
 use Rattle.fp_netlist.specs.Points.{width}
 use Rattle.fp_place.specs.Places.{Place, place_at, same_die}
 use Rattle.fp_place.specs.Areas.{fits}
 use Rattle.fp_place.specs.Legal.{StandsIn}
-use Rattle.fp_place.specs.Lining.{IsOnRow}
+use Rattle.fp_place.specs.Lining.{IsOnSegment}
 use Rattle.fp_place.specs.Placed.{LaneList, lanes_on, entry_at, StandOnce}
 use Rattle.fp_place.specs.LaneOrder.{AreByX, AreRanked, HoldInOrder, IsOnLane, is_of}
+use Rattle.fp_place.specs.PlacesLaws.{same_die-true, same_die-refl}
 use Rattle.fp_place.proofs.LinFill.{lanes_long}
-
-same_die-true : (a b : Die) → same_die a b ≡ true → a ≡ b
-same_die-true Top Top e = refl
-same_die-true Top Bottom e = absurd (let nothing : false ≡ true = e in cc)
-same_die-true Bottom Top e = absurd (let nothing : false ≡ true = e in cc)
-same_die-true Bottom Bottom e = refl
-
-same_die-refl : (die : Die) → same_die die die ≡ true
-same_die-refl Top = refl
-same_die-refl Bottom = refl
 
 -- an element that passes is in the filtered list
 at_filter : (test : CellId → Bool) (cells : List CellId) (cell : CellId) (k : ℕ) → k < length cells → get_or cells k cell ≡ cell → test cell ≡ true
@@ -75,130 +65,130 @@ entry_in lanes number rank cell e =
     (λ lane there at. record { lane = lane; there = there; at = at })
 
 -- an entry of lanes that hold cells in order
-record IsEntryOf (p : Netlist) (places : List Place) (rows : List ℕ) (order : List CellId) (die : Die) (number rank : ℕ) (cell : CellId) : Type 0 where
+record IsEntryOf (p : Netlist) (places : List Place) (numbers : List ℕ) (order : List CellId) (die : Die) (number rank : ℕ) (cell : CellId) : Type 0 where
   below : number < length (segments p.plan die)
-  at : slice_get (filter (is_of places rows die number) order) rank ≡ Some cell
+  at : slice_get (filter (is_of places numbers die number) order) rank ≡ Some cell
 
-pub lane_is : (p : Netlist) (places : List Place) (rows : List ℕ) (order : List CellId) (top bottom : LaneList) → HoldInOrder p places rows order top bottom
-    → (die : Die) (number : ℕ) (lane : List CellId) → slice_get (lanes_on top bottom die) number ≡ Some lane → lane ≡ filter (is_of places rows die number) order
-lane_is p places rows order top bottom hold die number lane there =
+pub lane_is : (p : Netlist) (places : List Place) (numbers : List ℕ) (order : List CellId) (top bottom : LaneList) → HoldInOrder p places numbers order top bottom
+    → (die : Die) (number : ℕ) (lane : List CellId) → slice_get (lanes_on top bottom die) number ≡ Some lane → lane ≡ filter (is_of places numbers die number) order
+lane_is p places numbers order top bottom hold die number lane there =
     let within = slice_get_within (lanes_on top bottom die) number lane there in
     sym (get_or_from_slice_get (lanes_on top bottom die) number lane [] there)
-    ∙ hold.lanes die number (omega (arith, within, lanes_long p places rows order top bottom hold die))
+    ∙ hold.lanes die number (omega (arith, within, lanes_long p places numbers order top bottom hold die))
 
-entry_of : (p : Netlist) (places : List Place) (rows : List ℕ) (order : List CellId) (top bottom : LaneList) → HoldInOrder p places rows order top bottom
-    → (die : Die) (number rank : ℕ) (cell : CellId) → entry_at (lanes_on top bottom die) number rank ≡ Some cell → IsEntryOf p places rows order die number rank cell
-entry_of p places rows order top bottom hold die number rank cell e =
+entry_of : (p : Netlist) (places : List Place) (numbers : List ℕ) (order : List CellId) (top bottom : LaneList) → HoldInOrder p places numbers order top bottom
+    → (die : Die) (number rank : ℕ) (cell : CellId) → entry_at (lanes_on top bottom die) number rank ≡ Some cell → IsEntryOf p places numbers order die number rank cell
+entry_of p places numbers order top bottom hold die number rank cell e =
     let found = entry_in (lanes_on top bottom die) number rank cell e in
     let within = slice_get_within (lanes_on top bottom die) number found.lane found.there in
     record {
-      below = omega (arith, within, lanes_long p places rows order top bottom hold die);
-      at = subst (λ (l : List CellId). slice_get l rank ≡ Some cell) (lane_is p places rows order top bottom hold die number found.lane found.there) found.at;
+      below = omega (arith, within, lanes_long p places numbers order top bottom hold die);
+      at = subst (λ (l : List CellId). slice_get l rank ≡ Some cell) (lane_is p places numbers order top bottom hold die number found.lane found.there) found.at;
     }
 
-entry_back : (p : Netlist) (places : List Place) (rows : List ℕ) (order : List CellId) (top bottom : LaneList) → HoldInOrder p places rows order top bottom
-    → (die : Die) (number rank : ℕ) (cell : CellId) → IsEntryOf p places rows order die number rank cell → entry_at (lanes_on top bottom die) number rank ≡ Some cell
-entry_back p places rows order top bottom hold die number rank cell is =
-    let long = lanes_long p places rows order top bottom hold die in
+entry_back : (p : Netlist) (places : List Place) (numbers : List ℕ) (order : List CellId) (top bottom : LaneList) → HoldInOrder p places numbers order top bottom
+    → (die : Die) (number rank : ℕ) (cell : CellId) → IsEntryOf p places numbers order die number rank cell → entry_at (lanes_on top bottom die) number rank ≡ Some cell
+entry_back p places numbers order top bottom hold die number rank cell is =
+    let long = lanes_long p places numbers order top bottom hold die in
     entry_from (lanes_on top bottom die) number rank (get_or (lanes_on top bottom die) number []) cell
     (slice_get-get_or (lanes_on top bottom die) number [] (let within = is.below in omega (arith, within, long)))
     (ap (λ (l : List CellId). slice_get l rank) (hold.lanes die number is.below) ∙ is.at)
 
 -- what is known of an entry's cell
-pub record IsOwned (places : List Place) (rows : List ℕ) (die : Die) (number : ℕ) (cell : CellId) : Type 0 where
+pub record IsOwned (places : List Place) (numbers : List ℕ) (die : Die) (number : ℕ) (cell : CellId) : Type 0 where
   pub die_is : (place_at places cell.0).die ≡ die
-  pub row_is : get_or rows cell.0 0 ≡ number
+  pub number_is : get_or numbers cell.0 0 ≡ number
   pub within : cell.0 < length places
 
-owned : (p : Netlist) (places : List Place) (rows : List ℕ) (order : List CellId) → AreByX places order → (die : Die) (number rank : ℕ) (cell : CellId)
-    → IsEntryOf p places rows order die number rank cell → IsOwned places rows die number cell
-owned p places rows order sorted die number rank cell is =
-    let test : CellId → Bool = is_of places rows die number in
+owned : (p : Netlist) (places : List Place) (numbers : List ℕ) (order : List CellId) → AreByX places order → (die : Die) (number rank : ℕ) (cell : CellId)
+    → IsEntryOf p places numbers order die number rank cell → IsOwned places numbers die number cell
+owned p places numbers order sorted die number rank cell is =
+    let test : CellId → Bool = is_of places numbers die number in
     let inside = slice_get_within (filter test order) rank cell is.at in
     let same : get_or (filter test order) rank cell ≡ cell = get_or_from_slice_get (filter test order) rank cell cell is.at in
     let passes : test cell ≡ true = sym (ap test same) ∙ filter_passes test order rank cell inside in
-    let parts = and_parts (same_die (place_at places cell.0).die die) (nat_eq (get_or rows cell.0 0) number) passes in
+    let parts = and_parts (same_die (place_at places cell.0).die die) (nat_eq (get_or numbers cell.0 0) number) passes in
     record {
       die_is = same_die-true (place_at places cell.0).die die parts.0;
-      row_is = eqb-true (get_or rows cell.0 0) number parts.1;
+      number_is = eqb-true (get_or numbers cell.0 0) number parts.1;
       within = subst (λ (c : CellId). c.0 < length places) same (All-filter test (λ (c : CellId). c.0 < length places) order sorted.within rank cell inside);
     }
 
 -- what lanes were made of
-pub record AreMade (p : Netlist) (places : List Place) (rows : List ℕ) (order : List CellId) (top bottom : LaneList) : Type 0 where
+pub record AreMade (p : Netlist) (places : List Place) (numbers : List ℕ) (order : List CellId) (top bottom : LaneList) : Type 0 where
   pub many : length places ≡ length p.cells
-  pub on_rows : (cell : ℕ) → cell < length p.cells → IsOnRow p places rows cell
+  pub on_segments : (cell : ℕ) → cell < length p.cells → IsOnSegment p places numbers cell
   pub sorted : AreByX places order
-  pub hold : HoldInOrder p places rows order top bottom
+  pub hold : HoldInOrder p places numbers order top bottom
 
-pub entry_owned : (p : Netlist) (places : List Place) (rows : List ℕ) (order : List CellId) (top bottom : LaneList) → AreMade p places rows order top bottom
-    → (die : Die) (number rank : ℕ) (cell : CellId) → entry_at (lanes_on top bottom die) number rank ≡ Some cell → IsOwned places rows die number cell
-entry_owned p places rows order top bottom made die number rank cell e =
-    owned p places rows order made.sorted die number rank cell (entry_of p places rows order top bottom made.hold die number rank cell e)
+pub entry_owned : (p : Netlist) (places : List Place) (numbers : List ℕ) (order : List CellId) (top bottom : LaneList) → AreMade p places numbers order top bottom
+    → (die : Die) (number rank : ℕ) (cell : CellId) → entry_at (lanes_on top bottom die) number rank ≡ Some cell → IsOwned places numbers die number cell
+entry_owned p places numbers order top bottom made die number rank cell e =
+    owned p places numbers order made.sorted die number rank cell (entry_of p places numbers order top bottom made.hold die number rank cell e)
 
-cell_there : (p : Netlist) (places : List Place) (rows : List ℕ) (order : List CellId) (top bottom : LaneList) → AreMade p places rows order top bottom
+cell_there : (p : Netlist) (places : List Place) (numbers : List ℕ) (order : List CellId) (top bottom : LaneList) → AreMade p places numbers order top bottom
     → (cell : ℕ) → cell < length p.cells → (die : Die) × (number : ℕ) × (rank : ℕ) × (entry_at (lanes_on top bottom die) number rank ≡ Some (record { 0 = cell }))
-cell_there p places rows order top bottom made cell below =
+cell_there p places numbers order top bottom made cell below =
     let die = (place_at places cell).die in
-    let number = get_or rows cell 0 in
-    let on = made.on_rows cell below in
+    let number = get_or numbers cell 0 in
+    let on = made.on_segments cell below in
     let here = made.sorted.there cell (let many = made.many in omega (arith, many)) in
-    let passes : is_of places rows die number (record { 0 = cell }) ≡ true =
+    let passes : is_of places numbers die number (record { 0 = cell }) ≡ true =
     ap (λ (b : Bool). b && nat_eq number number) (same_die-refl die) ∙ eq-eqb number number refl in
-    let found = at_filter (is_of places rows die number) order (record { 0 = cell }) here.0 here.1 here.2 passes in (
+    let found = at_filter (is_of places numbers die number) order (record { 0 = cell }) here.0 here.1 here.2 passes in (
       die,
       number,
       found.0,
-      entry_back p places rows order top bottom made.hold die number found.0 (record { 0 = cell })
+      entry_back p places numbers order top bottom made.hold die number found.0 (record { 0 = cell })
           (record { below = slice_get_within (segments p.plan die) number on.segment on.there; at = found.1 }),
     )
 
-one_rank : (p : Netlist) (places : List Place) (rows : List ℕ) (order : List CellId) → AreByX places order → (a b : Die) (i j r s : ℕ) (cell : CellId) → a ≡ b → i ≡ j
-    → IsEntryOf p places rows order a i r cell → IsEntryOf p places rows order b j s cell → r ≡ s
-one_rank p places rows order sorted a b i j r s cell same_dies same_numbers first second =
-    one_place (filter (is_of places rows a i) order) (AllPairs-filter (λ (x y : CellId). x.0 ≢ y.0) (is_of places rows a i) order sorted.apart) cell r s first.at
-    (subst (λ d. slice_get (filter (is_of places rows d i) order) s ≡ Some cell) (sym same_dies)
-    (subst (λ n. slice_get (filter (is_of places rows b n) order) s ≡ Some cell) (sym same_numbers) second.at))
+one_rank : (p : Netlist) (places : List Place) (numbers : List ℕ) (order : List CellId) → AreByX places order → (a b : Die) (i j r s : ℕ) (cell : CellId) → a ≡ b → i ≡ j
+    → IsEntryOf p places numbers order a i r cell → IsEntryOf p places numbers order b j s cell → r ≡ s
+one_rank p places numbers order sorted a b i j r s cell same_dies same_numbers first second =
+    one_place (filter (is_of places numbers a i) order) (AllPairs-filter (λ (x y : CellId). x.0 ≢ y.0) (is_of places numbers a i) order sorted.apart) cell r s first.at
+    (subst (λ d. slice_get (filter (is_of places numbers d i) order) s ≡ Some cell) (sym same_dies)
+    (subst (λ n. slice_get (filter (is_of places numbers b n) order) s ≡ Some cell) (sym same_numbers) second.at))
 
-stand_once : (p : Netlist) (places : List Place) (rows : List ℕ) (order : List CellId) (top bottom : LaneList) → AreMade p places rows order top bottom
+stand_once : (p : Netlist) (places : List Place) (numbers : List ℕ) (order : List CellId) (top bottom : LaneList) → AreMade p places numbers order top bottom
     → StandOnce (length p.cells) top bottom
-stand_once p places rows order top bottom made = record {
-  there = cell_there p places rows order top bottom made;
-  within = λ die number rank cell e. let owner = entry_owned p places rows order top bottom made die number rank cell e in let many = made.many in let within = owner.within in omega (arith, many, within);
+stand_once p places numbers order top bottom made = record {
+  there = cell_there p places numbers order top bottom made;
+  within = λ die number rank cell e. let owner = entry_owned p places numbers order top bottom made die number rank cell e in let many = made.many in let within = owner.within in omega (arith, many, within);
   one_die = λ a b i j r s cell e f. one_die a b i j r s cell e f;
   one_segment = λ a b i j r s cell e f. one_segment a b i j r s cell e f;
-  one_rank = λ a b i j r s cell e f. one_rank p places rows order made.sorted a b i j r s cell (one_die a b i j r s cell e f) (one_segment a b i j r s cell e f)
-      (entry_of p places rows order top bottom made.hold a i r cell e) (entry_of p places rows order top bottom made.hold b j s cell f);
+  one_rank = λ a b i j r s cell e f. one_rank p places numbers order made.sorted a b i j r s cell (one_die a b i j r s cell e f) (one_segment a b i j r s cell e f)
+      (entry_of p places numbers order top bottom made.hold a i r cell e) (entry_of p places numbers order top bottom made.hold b j s cell f);
 }
   where
     one_die : (a b : Die) (i j r s : ℕ) (cell : CellId) → entry_at (lanes_on top bottom a) i r ≡ Some cell → entry_at (lanes_on top bottom b) j s ≡ Some cell → a ≡ b
-    one_die a b i j r s cell e f = sym (entry_owned p places rows order top bottom made a i r cell e).die_is ∙ (entry_owned p places rows order top bottom made b j s cell f).die_is
+    one_die a b i j r s cell e f = sym (entry_owned p places numbers order top bottom made a i r cell e).die_is ∙ (entry_owned p places numbers order top bottom made b j s cell f).die_is
 
     one_segment : (a b : Die) (i j r s : ℕ) (cell : CellId) → entry_at (lanes_on top bottom a) i r ≡ Some cell → entry_at (lanes_on top bottom b) j s ≡ Some cell → i ≡ j
-    one_segment a b i j r s cell e f = sym (entry_owned p places rows order top bottom made a i r cell e).row_is ∙ (entry_owned p places rows order top bottom made b j s cell f).row_is
+    one_segment a b i j r s cell e f = sym (entry_owned p places numbers order top bottom made a i r cell e).number_is ∙ (entry_owned p places numbers order top bottom made b j s cell f).number_is
 
-entry_on_lane : (p : Netlist) (places : List Place) (rows : List ℕ) (die : Die) (number : ℕ) (cell : CellId) → IsOnRow p places rows cell.0 → IsOwned places rows die number cell
+entry_on_lane : (p : Netlist) (places : List Place) (numbers : List ℕ) (die : Die) (number : ℕ) (cell : CellId) → IsOnSegment p places numbers cell.0 → IsOwned places numbers die number cell
     → IsOnLane p places die number cell.0
-entry_on_lane p places rows die number cell on own = record {
+entry_on_lane p places numbers die number cell on own = record {
   die_is = own.die_is;
   segment = on.segment;
-  there = subst (λ n. slice_get (segments p.plan die) n ≡ Some on.segment) own.row_is
-      (subst (λ d. slice_get (segments p.plan d) (get_or rows cell.0 0) ≡ Some on.segment) own.die_is on.there);
+  there = subst (λ n. slice_get (segments p.plan die) n ≡ Some on.segment) own.number_is
+      (subst (λ d. slice_get (segments p.plan d) (get_or numbers cell.0 0) ≡ Some on.segment) own.die_is on.there);
   stands = subst (λ d. StandsIn on.segment (width p cell.0 d) (place_at places cell.0)) own.die_is on.stands;
   fitting = subst (λ d. IsTrue (fits p cell.0 d)) own.die_is on.fitting;
 }
 
-pub are_ranked : (p : Netlist) (places : List Place) (rows : List ℕ) (order : List CellId) (top bottom : LaneList) → AreMade p places rows order top bottom
+pub are_ranked : (p : Netlist) (places : List Place) (numbers : List ℕ) (order : List CellId) (top bottom : LaneList) → AreMade p places numbers order top bottom
     → AreRanked p places top bottom
-are_ranked p places rows order top bottom made = record {
+are_ranked p places numbers order top bottom made = record {
   top_lanes = made.hold.top_lanes;
   bottom_lanes = made.hold.bottom_lanes;
-  once = stand_once p places rows order top bottom made;
+  once = stand_once p places numbers order top bottom made;
   on_lane = λ die number rank cell e.
-      let own = entry_owned p places rows order top bottom made die number rank cell e in
+      let own = entry_owned p places numbers order top bottom made die number rank cell e in
       let many = made.many in let within = own.within in
-      entry_on_lane p places rows die number cell (made.on_rows cell.0 (omega (arith, many, within))) own;
+      entry_on_lane p places numbers die number cell (made.on_segments cell.0 (omega (arith, many, within))) own;
   rising = λ die number lane there.
-      subst (AllPairs (λ (a b : CellId). (place_at places a.0).x ≤ℤ (place_at places b.0).x)) (sym (lane_is p places rows order top bottom made.hold die number lane there))
-      (AllPairs-filter (λ (a b : CellId). (place_at places a.0).x ≤ℤ (place_at places b.0).x) (is_of places rows die number) order made.sorted.rising);
+      subst (AllPairs (λ (a b : CellId). (place_at places a.0).x ≤ℤ (place_at places b.0).x)) (sym (lane_is p places numbers order top bottom made.hold die number lane there))
+      (AllPairs-filter (λ (a b : CellId). (place_at places a.0).x ≤ℤ (place_at places b.0).x) (is_of places numbers die number) order made.sorted.rising);
 }

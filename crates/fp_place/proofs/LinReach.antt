@@ -14,6 +14,7 @@ use Rattle.fp_place.specs.Places.{Place, place_at}
 use Rattle.fp_place.specs.Legal.{Overlap}
 use Rattle.fp_place.specs.Placed.{LaneList}
 use Rattle.fp_place.specs.LaneOverlaps.{IsFirst, IsLane, IsAmong, IsAmongLanes, Meets, MeetsOn, StandsApart, IsApartOn, IsCloseNext, IsFarNext, cell_at, earlier}
+use Rattle.fp_place.specs.ClearLaws.{overlap_swapped}
 use Rattle.fp_place.proofs.LinFirst.{first_some, first_joined, first_kept, first_weaker}
 
 -- where a lane's cell of a rank begins and ends
@@ -79,9 +80,6 @@ overlap_behind p places die lane is j k less below close =
       low = omega (arith, ints, row_here, row_there, some_height_there, tall_there);
       high = omega (arith, ints, row_here, row_there, some_height_here, tall_here);
     }
-
-pub overlap_swapped : (p : Netlist) (places : List Place) (a b : ℕ) → Overlap p places a b → Overlap p places b a
-overlap_swapped p places a b over = record { same_die = sym over.same_die; left = over.right; right = over.left; low = over.high; high = over.low }
 
 -- of two cells of a lane that overlap, each begins before the end of the other
 pub overlap_ends : (p : Netlist) (places : List Place) (die : Die) (lane : List CellId) → IsLane p places die lane → (j k : ℕ) → j < length lane

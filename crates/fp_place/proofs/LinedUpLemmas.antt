@@ -1,14 +1,14 @@
 -- From lined up cells and centres to a placement.
-use Rattle.std.proofs.Common.{◌≡◌, true, ℕ, ◌+◌, ◌<◌, ◌≤◌, List, length, map, get_or, set, length-set, All, Option, Some, None, slice_get, ℤ, pos, ◌+ℤ◌, refl, sym, ap, subst, ◌∙◌, ◌⊎◌, inl, inr, arith}
+use Rattle.std.proofs.Common.{◌≡◌, ℕ, ◌+◌, ◌<◌, ◌≤◌, List, length, map, get_or, set, length-set, All, Option, Some, None, slice_get, ℤ, pos, ◌+ℤ◌, refl, sym, ap, subst, ◌∙◌, ◌⊎◌, inl, inr, arith}
 use Rattle.std.proofs.lemmas.List.{get_or_default, get_or-map, length-map, get_or-set_same, get_or-set_other, ext_get_or}
 use Rattle.std.proofs.lemmas.List.Elements.{All-from_get_or, All-get_or}
-use Rattle.std.proofs.lemmas.Bool.{cases_lt, and_parts, leb-true}
+use Rattle.std.proofs.lemmas.Bool.{cases_lt}
 use Rattle.std.proofs.lemmas.Option.{same_Some}
 use Rattle.std.proofs.lemmas.Int.{ints}
 use Rattle.fp_base.specs.declared.ids.Die.{Die}
 use Rattle.fp_base.specs.declared.ids.Point.{Point}
 use Rattle.fp_tech.specs.declared.dies.Segment.{Segment}
-use Rattle.fp_tech.specs.Plan.{Plan, spec_of, row_at, rows_lie, segments, IsPlan}
+use Rattle.fp_tech.specs.Plan.{segments, IsPlan}
 use Rattle.fp_netlist.specs.Netlist.{Netlist}
 use Rattle.fp_place.specs.declared.placement.Spot.{Spot}
 use Rattle.fp_place.specs.Places.{Place, nowhere, place_at}
@@ -16,13 +16,10 @@ use Rattle.fp_place.specs.Drawing.{IsCoordinate}
 use Rattle.fp_place.specs.Lining.{AreLined}
 use Rattle.fp_place.specs.Placed.{LaneList, Placed, no_spot, spot_at, place_of, places_of, IsSpotOf, IsPlacementOf, StandBetween}
 use Rattle.fp_place.specs.Joining.{AreInRange}
-use Rattle.fp_place.specs.LinedUp.{AreOnRows, AreLinedUp, AreNamed, IsLaid}
-use Rattle.fp_base.specs.declared.ids.Die.TheVariants.{Top, Bottom}
-use Rattle.fp_tech.specs.declared.dies.DieSpec.{DieSpec}
-use Rattle.fp_tech.specs.declared.dies.Frame.{Frame}
+use Rattle.fp_place.specs.LinedUp.{AreOnSegments, AreLinedUp, AreNamed, IsLaid}
 use Rattle.fp_place.specs.Legal.{StandsIn}
 use Rattle.fp_netlist.specs.Points.{width}
-use Rattle.fp_place.proofs.StandingLemmas.{row_is}
+use Rattle.fp_place.specs.PlacedLaws.{place_in_range}
 
 -- the first terminals are set
 pub record AreSetBelow (old new : Placed) (centres : List (Option Point)) (net : ℕ) : Type 0 where
@@ -61,18 +58,18 @@ all_set old new centres net e are =
     ∙ ap (λ terminals. record { spots = old.spots; top = old.top; bottom = old.bottom; terminals = terminals }) terminals_are
 
 -- a spot stands at its cell's place
-spot_is : (p : Netlist) (places : List Place) (rows : List ℕ) (built : Placed) (cell : ℕ) → length places ≡ length p.cells → AreOnRows p places rows
-    → AreLined p places rows built.top built.bottom → IsPlacementOf p built → map (λ (spot : Spot). spot.x) built.spots ≡ map (λ (place : Place). place.x) places → AreNamed built
+spot_is : (p : Netlist) (places : List Place) (numbers : List ℕ) (built : Placed) (cell : ℕ) → length places ≡ length p.cells → AreOnSegments p places numbers
+    → AreLined p places numbers built.top built.bottom → IsPlacementOf p built → map (λ (spot : Spot). spot.x) built.spots ≡ map (λ (place : Place). place.x) places → AreNamed built
     → cell < length built.spots → place_of (spot_at built.spots cell) ≡ place_at places cell
-spot_is p places rows built cell many on_rows lined of_problem xs named below =
+spot_is p places numbers built cell many on_segments lined of_problem xs named below =
     let spot : Spot = spot_at built.spots cell in
     let place : Place = place_at places cell in
     let die_is : place.die ≡ spot.die = lined.own_die spot.die spot.segment spot.rank (record { 0 = cell }) (named cell below) in
-    let row_is : get_or rows cell 0 ≡ spot.segment = lined.own_row spot.die spot.segment spot.rank (record { 0 = cell }) (named cell below) in
-    let stands = on_rows cell (omega (arith, below, of_problem.cells)) in
+    let number_is : get_or numbers cell 0 ≡ spot.segment = lined.own_segment spot.die spot.segment spot.rank (record { 0 = cell }) (named cell below) in
+    let stands = on_segments cell (omega (arith, below, of_problem.cells)) in
     let of_spot = All-get_or (IsSpotOf p) built.spots cell no_spot below of_problem.spots in
     let there : slice_get (segments p.plan spot.die) spot.segment ≡ Some stands.segment =
-    ap (λ d. slice_get (segments p.plan d) spot.segment) (sym die_is) ∙ ap (λ r. slice_get (segments p.plan place.die) r) (sym row_is) ∙ stands.there in
+    ap (λ d. slice_get (segments p.plan d) spot.segment) (sym die_is) ∙ ap (λ r. slice_get (segments p.plan place.die) r) (sym number_is) ∙ stands.there in
     let same : of_spot.segment ≡ stands.segment = same_Some of_spot.segment stands.segment (sym of_spot.there ∙ there) in
     let y_is : spot.y ≡ place.y = of_spot.row ∙ ap (λ (s : Segment). s.y) same ∙ sym stands.stands.row in
     let x_is : spot.x ≡ place.x =
@@ -82,23 +79,23 @@ spot_is p places rows built cell many on_rows lined of_problem xs named below =
     ∙ ap (λ (x : ℤ). let q : Place = record { die = place.die; x = x; y = spot.y } in q) x_is
     ∙ ap (λ (y : ℤ). let q : Place = record { die = place.die; x = place.x; y = y } in q) y_is
 
-places_laid : (p : Netlist) (places : List Place) (rows : List ℕ) (built : Placed) → length places ≡ length p.cells → AreOnRows p places rows
-    → AreLined p places rows built.top built.bottom → IsPlacementOf p built → map (λ (spot : Spot). spot.x) built.spots ≡ map (λ (place : Place). place.x) places → AreNamed built
+places_laid : (p : Netlist) (places : List Place) (numbers : List ℕ) (built : Placed) → length places ≡ length p.cells → AreOnSegments p places numbers
+    → AreLined p places numbers built.top built.bottom → IsPlacementOf p built → map (λ (spot : Spot). spot.x) built.spots ≡ map (λ (place : Place). place.x) places → AreNamed built
     → places_of built ≡ places
-places_laid p places rows built many on_rows lined of_problem xs named =
+places_laid p places numbers built many on_segments lined of_problem xs named =
     ext_get_or nowhere (places_of built) places (length-map built.spots place_of ∙ of_problem.cells ∙ sym many)
     (λ cell less.
     let below : cell < length built.spots = omega (arith, less, length-map built.spots place_of) in
-    get_or-map place_of built.spots cell no_spot nowhere below ∙ spot_is p places rows built cell many on_rows lined of_problem xs named below)
+    get_or-map place_of built.spots cell no_spot nowhere below ∙ spot_is p places numbers built cell many on_segments lined of_problem xs named below)
 
 pub laid : (p : Netlist) (places : List Place) (centres : List (Option Point)) (top bottom : LaneList) (built placed : Placed) (xs : List ℤ) → length places ≡ length p.cells
     → AreLinedUp p places top bottom → length centres ≡ length p.nets → AreInRange centres → IsPlacementOf p built → built.top ≡ top → built.bottom ≡ bottom
     → map (λ (spot : Spot). spot.x) built.spots ≡ xs → xs ≡ map (λ (place : Place). place.x) places → AreNamed built → placed ≡ record built { terminals = centres }
     → IsLaid p places centres placed
 laid p places centres top bottom built placed xs many up nets range of_problem top_is bottom_is xs_are given named is =
-    let lined : AreLined p places up.rows built.top built.bottom =
-    subst (λ t. AreLined p places up.rows t built.bottom) (sym top_is) (subst (AreLined p places up.rows top) (sym bottom_is) up.lined) in
-    let places_are : places_of built ≡ places = places_laid p places up.rows built many up.on_rows lined of_problem (xs_are ∙ given) named in
+    let lined : AreLined p places up.numbers built.top built.bottom =
+    subst (λ t. AreLined p places up.numbers t built.bottom) (sym top_is) (subst (AreLined p places up.numbers top) (sym bottom_is) up.lined) in
+    let places_are : places_of built ≡ places = places_laid p places up.numbers built many up.on_segments lined of_problem (xs_are ∙ given) named in
     subst (IsLaid p places centres) (sym is)
     (record {
       places_are = places_are;
@@ -115,36 +112,22 @@ laid p places centres top bottom built placed xs many up nets range of_problem t
           subst (λ ps. StandBetween p die ps segment.start (segment.start +ℤ segment.length) lane) (sym places_are) (lined.in_order die number segment lane there at);
     })
 
--- a cell on a row has its x in range
-lies : (plan : Plan) → IsPlan plan → (die : Die) → rows_lie plan.frame (spec_of plan die) ≡ true
-lies plan is Top = is.top_lies
-lies plan is Bottom = is.bottom_lies
-
-ends_within : (frame : Frame) (spec : DieSpec) → rows_lie frame spec ≡ true → spec.start_x + spec.length ≤ frame.urx
-ends_within frame spec e = leb-true (spec.start_x + spec.length) frame.urx (and_parts _ _ (and_parts _ _ e).1).0
-
-in_row : (p : Netlist) (place : Place) (wide : ℕ) (row : ℕ) (segment : Segment) → IsPlan p.plan → slice_get (segments p.plan place.die) row ≡ Some segment → StandsIn segment wide place
+-- a cell on a segment has its x in range
+x_on_segment : (p : Netlist) (place : Place) (wide : ℕ) (number : ℕ) (segment : Segment) → IsPlan p.plan → slice_get (segments p.plan place.die) number ≡ Some segment → StandsIn segment wide place
     → IsCoordinate place.x
-in_row p place wide row segment is there stands =
-    let row : segment ≡ row_at (spec_of p.plan place.die) row = (row_is p.plan place.die row segment there).is in
-    let start_is : segment.start ≡ pos (spec_of p.plan place.die).start_x = ap (λ (s : Segment). s.start) row in
-    let length_is : segment.length ≡ pos (spec_of p.plan place.die).length = ap (λ (s : Segment). s.length) row in
-    let within = ends_within p.plan.frame (spec_of p.plan place.die) (lies p.plan is place.die) in
-    record {
-      least = omega (arith, ints, stands.starts, start_is);
-      most = omega (arith, ints, stands.ends, start_is, length_is, within, is.setup.frame.right);
-    }
+x_on_segment p place wide number segment is there stands =
+    place_in_range p.plan is place.die number segment there place.x stands.starts (let ends = stands.ends in omega (arith, ints, ends))
 
-pub xs_in_range : (p : Netlist) (places : List Place) (rows : List ℕ) (xs : List ℤ) → IsPlan p.plan → length places ≡ length p.cells → AreOnRows p places rows
+pub xs_in_range : (p : Netlist) (places : List Place) (numbers : List ℕ) (xs : List ℤ) → IsPlan p.plan → length places ≡ length p.cells → AreOnSegments p places numbers
     → xs ≡ map (λ (place : Place). place.x) places → All IsCoordinate xs
-xs_in_range p places rows xs is many on_rows e =
+xs_in_range p places numbers xs is many on_segments e =
     subst (All IsCoordinate) (sym e)
     (All-from_get_or IsCoordinate (map (λ (place : Place). place.x) places) (pos 0)
     (λ cell less.
     let below : cell < length places = omega (arith, less, length-map places (λ (place : Place). place.x)) in
-    let stands = on_rows cell (omega (arith, below, many)) in
+    let stands = on_segments cell (omega (arith, below, many)) in
     subst IsCoordinate (sym (get_or-map (λ (place : Place). place.x) places cell nowhere (pos 0) below))
-    (in_row p (place_at places cell) (width p cell (place_at places cell).die) (get_or rows cell 0) stands.segment is stands.there stands.stands)))
+    (x_on_segment p (place_at places cell) (width p cell (place_at places cell).die) (get_or numbers cell 0) stands.segment is stands.there stands.stands)))
 
 pub xs_many : (places : List Place) (xs : List ℤ) (count : ℕ) → xs ≡ map (λ (place : Place). place.x) places → length places ≡ count → length xs ≡ count
 xs_many places xs count e many = ap length e ∙ length-map places (λ (place : Place). place.x) ∙ many

@@ -1,29 +1,14 @@
 -- What the lines of a file tell of each number.
-use Rattle.std.proofs.Common.{◌≡◌, ℕ, zero, suc, ◌+◌, ◌<◌, ◌≤◌, ◌==◌, Bool, true, false, if◌then◌else◌, List, [], ◌∷◌, length, drop, drop-cons, replicate, get_or, set, length-set, Some, find, refl, sym, ap, subst, ◌∙◌, arith}
+use Rattle.std.proofs.Common.{◌≡◌, ℕ, zero, suc, ◌+◌, ◌<◌, ◌≤◌, ◌==◌, Bool, true, false, if◌then◌else◌, List, [], ◌∷◌, length, drop, drop-cons, replicate, get_or, set, length-set, Some, refl, sym, ap, subst, ◌∙◌, arith}
 use Rattle.std.specs.List.{count_by}
 use Rattle.std.specs.Option.{option_map}
 use Rattle.std.proofs.lemmas.List.{get_or_default, set_past, get_or-set_same, get_or-set_other, get_or-replicate, length-replicate}
-use Rattle.std.proofs.lemmas.List.Sums.{sum_by-cons}
 use Rattle.std.proofs.lemmas.Bool.{eqb-true, eqb-false}
 use Rattle.fp_base.specs.declared.ids.Point.{Point}
 use Rattle.fp_place.specs.declared.seen.Seen.{Seen}
 use Rattle.fp_place.specs.declared.seen.Seen.TheVariants.{Never, Once, Often}
+use Rattle.fp_place.specs.DrawnLaws.{count_yes, count_no, find_yes, find_no}
 use Rattle.fp_place.specs.Seen.{seen_again, noted, all_noted, Tells}
-
--- one more line in front
-pub count_yes : {X : Type 0} (test : X → Bool) (x : X) (xs : List X) → test x ≡ true → count_by test (x ∷ xs) ≡ 1 + count_by test xs
-count_yes test x xs passes = sum_by-cons (λ y. if test y then 1 else 0) x xs ∙ ap (λ (b : Bool). (if b then 1 else 0) + count_by test xs) passes
-
-pub count_no : {X : Type 0} (test : X → Bool) (x : X) (xs : List X) → test x ≡ false → count_by test (x ∷ xs) ≡ count_by test xs
-count_no test x xs fails =
-    sum_by-cons (λ y. if test y then 1 else 0) x xs ∙ ap (λ (b : Bool). (if b then 1 else 0) + count_by test xs) fails
-    ∙ (let same : 0 + count_by test xs ≡ count_by test xs = omega arith in same)
-
-pub find_yes : {X : Type 0} (test : X → Bool) (x : X) (xs : List X) → test x ≡ true → find test (x ∷ xs) ≡ Some x
-find_yes test x xs passes = ap (λ (b : Bool). if b then Some x else find test xs) passes
-
-pub find_no : {X : Type 0} (test : X → Bool) (x : X) (xs : List X) → test x ≡ false → find test (x ∷ xs) ≡ find test xs
-find_no test x xs fails = ap (λ (b : Bool). if b then Some x else find test xs) fails
 
 -- the loop over the lines
 pub noted_start : {A : Type 0} (number : A → ℕ) (at : A → Point) (seen none : List Seen) (lines : List A) → seen ≡ none

@@ -9,6 +9,7 @@ use Rattle.fp_place.specs.declared.judge.Judged.{Judged}
 use Rattle.fp_place.specs.declared.judge.Judged.TheVariants as judged
 use Rattle.fp_place.specs.Places.{Place}
 use Rattle.fp_place.specs.Drawing.{Drawing, is_net, centre_of, places_in}
+use Rattle.fp_place.specs.Blocks.{KeepsOffBlocks}
 use Rattle.fp_place.specs.Legal.{StandsOnce, StandsOnSegment, FitsItsDie, IsClear, KeepsPercent, HasItsTerminal, KeepsFromEdges, KeepsFromOthers, IsLegal}
 use Rattle.fp_place.specs.Placed.{Placed, places_of, IsPlacementOf, IsInOrder}
 
@@ -94,3 +95,8 @@ pub record IsAsDrawn (p : Netlist) (drawing : Drawing) (placed : Placed) : Type 
 abbrev pub Judges : Netlist → Drawing → Judged → Type 0
 Judges p drawing (judged.Legal placed) = IsLegal p drawing × IsAsDrawn p drawing placed × IsPlacementOf p placed × IsInOrder p placed
 Judges p drawing (judged.Breaks rule subject) = IsFirstBreak p drawing rule subject
+
+-- what it says of blockages: no cell of a legal drawing overlaps one of its die
+abbrev pub KeepsOff : Netlist → Drawing → Judged → Type 0
+KeepsOff p drawing (judged.Legal placed) = KeepsOffBlocks p drawing
+KeepsOff p drawing (judged.Breaks rule subject) = Unit {0}

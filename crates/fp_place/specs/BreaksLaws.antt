@@ -1,15 +1,15 @@
 -- Laws of the verdict: the first break is one, and a drawing is not both legal and broken.
-use Rattle.std.specs.Prelude.{◌≡◌, ℕ, ◌+◌, ◌<◌, ◌≤◌, nat_eq, if◌then◌else◌, List, [], ◌∷◌, length, Bool, true, false, Option, Some, None, is_some, get_or, find, ◌⊎◌}
+use Rattle.std.specs.Prelude.{◌≡◌, ℕ, ◌<◌, ◌≤◌, nat_eq, if◌then◌else◌, List, [], ◌∷◌, length, Bool, true, false, Option, Some, None, is_some, get_or, find, ◌⊎◌}
 use Rattle.std.specs.List.{count_by}
 use Rattle.std.specs.Option.{option_map}
 use Rattle.std.proofs.Common.{refl, sym, ap, subst, ◌∙◌, inl, inr, arith}
 use Rattle.std.proofs.lemmas.Bool.{cases_order}
-use Rattle.std.proofs.lemmas.List.Sums.{sum_by-cons}
 use Rattle.fp_netlist.specs.Netlist.{Netlist}
 use Rattle.fp_place.specs.declared.judge.Subject.{Subject}
 use Rattle.fp_place.specs.declared.judge.Judged.TheVariants as judged
 use Rattle.fp_place.specs.Places.{Place, dies_of}
 use Rattle.fp_place.specs.Cut.{is_cut}
+use Rattle.fp_place.specs.DrawnLaws.{count_yes, count_no}
 use Rattle.fp_place.specs.Drawing.{Drawing, is_net, centre_of, places_in}
 use Rattle.fp_place.specs.Placed.{Placed, places_of}
 use Rattle.fp_place.specs.Legal.{IsLegalAt, IsLegal}
@@ -125,15 +125,6 @@ one_break p drawing rule other_rule subject other (a, m, a_is, s_is, first) (b, 
       rule_is = a_is ∙ ap rule_number same ∙ sym b_is;
       subject_is = s_is ∙ ap (λ r. subject_of r m) same ∙ ap (subject_of b) (one_number p drawing places b m n here second) ∙ sym t_is;
     }
-
--- one more line in front
-count_yes : {A : Type 0} (test : A → Bool) (x : A) (xs : List A) → test x ≡ true → count_by test (x ∷ xs) ≡ 1 + count_by test xs
-count_yes test x xs passes = sum_by-cons (λ y. if test y then 1 else 0) x xs ∙ ap (λ (b : Bool). (if b then 1 else 0) + count_by test xs) passes
-
-count_no : {A : Type 0} (test : A → Bool) (x : A) (xs : List A) → test x ≡ false → count_by test (x ∷ xs) ≡ count_by test xs
-count_no test x xs fails =
-    sum_by-cons (λ y. if test y then 1 else 0) x xs ∙ ap (λ (b : Bool). (if b then 1 else 0) + count_by test xs) fails
-    ∙ (let same : 0 + count_by test xs ≡ count_by test xs = omega arith in same)
 
 -- a line that passes is found where there is one
 record IsCounted {A B : Type 0} (test : A → Bool) (at : A → B) (lines : List A) (found : Option A) : Type 0 where

@@ -75,7 +75,7 @@ pub first_least_none : (passes : ℕ → Bool) (cost : ℕ → ℕ) (bound : ℕ
 first_least_none passes cost bound none =
     subst (λ answer. MatchOption answer (NonePasses passes bound) (IsFirstLeast passes cost bound)) none (first_least_is passes cost bound)
 
--- and the other way: a number of which this holds is the first least one
+-- a number of which this holds is the first least one
 pub first_least_some : (passes : ℕ → Bool) (cost : ℕ → ℕ) (bound best : ℕ) → IsFirstLeast passes cost bound best → first_least passes cost bound ≡ Some best
 first_least_some passes cost bound best is = by (first_least passes cost bound) (first_least_is passes cost bound)
   where

@@ -30,23 +30,23 @@ pub record AreEmptyOn (plan : Plan) (lined : Lined) : Type 0 where
   pub bottom_is : lined.bottom ≡ replicate (length (segments plan Bottom)) []
 
 abbrev pub with_last : LaneList → ℕ → CellId → LaneList
-with_last lanes row cell = set lanes row (get_or lanes row [] ++ cell ∷ [])
+with_last lanes number cell = set lanes number (get_or lanes number [] ++ cell ∷ [])
 
 -- one more cell at the end of a lane
 abbrev pub pushed : Lined → Die → ℕ → CellId → Lined
-pushed lined Top row cell = record lined { top = with_last lined.top row cell }
-pushed lined Bottom row cell = record lined { bottom = with_last lined.bottom row cell }
+pushed lined Top number cell = record lined { top = with_last lined.top number cell }
+pushed lined Bottom number cell = record lined { bottom = with_last lined.bottom number cell }
 
--- a cell's row is that of a segment of a die
+-- a cell stands on the segment of this number of a die
 abbrev pub is_of : List Place → List ℕ → Die → ℕ → CellId → Bool
-is_of places rows die number cell = same_die (place_at places cell.0).die die && nat_eq (get_or rows cell.0 0) number
+is_of places numbers die number cell = same_die (place_at places cell.0).die die && nat_eq (get_or numbers cell.0 0) number
 
--- the lanes hold these cells, each on its own row, in their order
-pub record HoldInOrder (p : Netlist) (places : List Place) (rows : List ℕ) (cells : List CellId) (top bottom : LaneList) : Type 0 where
+-- the lanes hold these cells, each on its own segment, in their order
+pub record HoldInOrder (p : Netlist) (places : List Place) (numbers : List ℕ) (cells : List CellId) (top bottom : LaneList) : Type 0 where
   pub top_lanes : length top ≡ length (segments p.plan Top)
   pub bottom_lanes : length bottom ≡ length (segments p.plan Bottom)
   pub lanes : (die : Die) (number : ℕ) → number < length (segments p.plan die)
-      → get_or (lanes_on top bottom die) number [] ≡ filter (is_of places rows die number) cells
+      → get_or (lanes_on top bottom die) number [] ≡ filter (is_of places numbers die number) cells
 
 -- a cell stands on a segment of a die, and fits it
 pub record IsOnLane (p : Netlist) (places : List Place) (die : Die) (number cell : ℕ) : Type 0 where

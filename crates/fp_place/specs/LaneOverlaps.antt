@@ -57,7 +57,7 @@ pub record Meets (p : Netlist) (places : List Place) (lane : List CellId) (cell 
 abbrev pub StandsApart : Netlist → List Place → List CellId → CellId → Type 0
 StandsApart p places lane cell = (other : ℕ) → other < length lane → (cell_at lane other).0 ≢ cell.0 → Overlap p places cell.0 (cell_at lane other).0 → ⊥
 
--- the same over the lanes of a die
+-- a cell overlaps another of its lane, over the lanes of a die
 pub record MeetsOn (p : Netlist) (places : List Place) (lanes : LaneList) (cell : CellId) : Type 0 where
   pub number : ℕ
   pub within : number < length lanes

@@ -5,23 +5,23 @@ use Rattle.fp_netlist.specs.Netlist.{Netlist}
 use Rattle.fp_place.specs.declared.fault.Fault.{Fault}
 use Rattle.fp_place.specs.Places.{Place}
 use Rattle.fp_place.specs.Drawing.{Drawing}
-use Rattle.fp_place.specs.Lining.{IsOnRow, AreLined}
+use Rattle.fp_place.specs.Lining.{IsOnSegment, AreLined}
 use Rattle.fp_place.specs.Placed.{LaneList, Placed, lanes_of, entry_at, spot_at, places_of, IsPlacementOf, IsInOrder}
 use Rattle.fp_place.specs.FirstFaults.{HoldBelow, IsFirstFault}
 
--- cells stand on these rows
-abbrev pub AreOnRows : Netlist → List Place → List ℕ → Type 0
-AreOnRows p places rows = (cell : ℕ) → cell < length p.cells → IsOnRow p places rows cell
+-- cells stand on the segments of these numbers
+abbrev pub AreOnSegments : Netlist → List Place → List ℕ → Type 0
+AreOnSegments p places numbers = (cell : ℕ) → cell < length p.cells → IsOnSegment p places numbers cell
 
--- the lanes hold the cells, which stand on some rows
+-- the lanes hold the cells, each on its segment
 pub record AreLinedUp (p : Netlist) (places : List Place) (top bottom : LaneList) : Type 0 where
-  pub rows : List ℕ
-  pub on_rows : AreOnRows p places rows
-  pub lined : AreLined p places rows top bottom
+  pub numbers : List ℕ
+  pub on_segments : AreOnSegments p places numbers
+  pub lined : AreLined p places numbers top bottom
 
 -- rules 4 to 6 hold, and the cells are lined up
-pub record AreClear (p : Netlist) (places : List Place) (rows : List ℕ) (top bottom : LaneList) : Type 0 where
-  pub lined : AreLined p places rows top bottom
+pub record AreClear (p : Netlist) (places : List Place) (numbers : List ℕ) (top bottom : LaneList) : Type 0 where
+  pub lined : AreLined p places numbers top bottom
   pub holds : (drawing : Drawing) → HoldBelow p drawing places 4 → HoldBelow p drawing places 7
 
 -- the first fault of a drawing with these places, where the first three rules hold

@@ -13,24 +13,24 @@ use Rattle.fp_place.specs.Areas.{fits}
 use Rattle.fp_place.specs.Legal.{StandsIn, IsClear}
 use Rattle.fp_place.specs.Placed.{LaneList, lanes_on, entry_at, StandOnce, StandBetween}
 
--- a cell stands on the segment of its row, which it fits
-pub record IsOnRow (p : Netlist) (places : List Place) (rows : List ℕ) (cell : ℕ) : Type 0 where
+-- a cell stands on the segment of its number, and fits its die
+pub record IsOnSegment (p : Netlist) (places : List Place) (numbers : List ℕ) (cell : ℕ) : Type 0 where
   pub segment : Segment
-  pub there : slice_get (segments p.plan (place_at places cell).die) (get_or rows cell 0) ≡ Some segment
+  pub there : slice_get (segments p.plan (place_at places cell).die) (get_or numbers cell 0) ≡ Some segment
   pub stands : StandsIn segment (width p cell (place_at places cell).die) (place_at places cell)
   pub fitting : IsTrue (fits p cell (place_at places cell).die)
 
--- the lanes hold each cell once, on its own row, in order of x
-pub record AreLined (p : Netlist) (places : List Place) (rows : List ℕ) (top bottom : LaneList) : Type 0 where
+-- the lanes hold each cell once, on its own segment, in order of x
+pub record AreLined (p : Netlist) (places : List Place) (numbers : List ℕ) (top bottom : LaneList) : Type 0 where
   pub top_lanes : length top ≡ length (segments p.plan Top)
   pub bottom_lanes : length bottom ≡ length (segments p.plan Bottom)
   pub once : StandOnce (length p.cells) top bottom
   pub own_die : (die : Die) (segment rank : ℕ) (cell : CellId) → entry_at (lanes_on top bottom die) segment rank ≡ Some cell → (place_at places cell.0).die ≡ die
-  pub own_row : (die : Die) (segment rank : ℕ) (cell : CellId) → entry_at (lanes_on top bottom die) segment rank ≡ Some cell → get_or rows cell.0 0 ≡ segment
+  pub own_segment : (die : Die) (segment rank : ℕ) (cell : CellId) → entry_at (lanes_on top bottom die) segment rank ≡ Some cell → get_or numbers cell.0 0 ≡ segment
   pub in_order : (die : Die) (number : ℕ) (segment : Segment) (lane : List CellId) → slice_get (segments p.plan die) number ≡ Some segment
       → slice_get (lanes_on top bottom die) number ≡ Some lane → StandBetween p die places segment.start (segment.start +ℤ segment.length) lane
 
 -- all cells are clear and lined up, or the first that overlaps some other
 abbrev pub LinesUp : Netlist → List Place → List ℕ → Result Lined CellId → Type 0
-LinesUp p places rows (Ok lined) = ((cell : ℕ) → cell < length p.cells → IsClear p places cell) × AreLined p places rows lined.top lined.bottom
-LinesUp p places rows (Err cell) = (cell.0 < length p.cells) × (IsClear p places cell.0 → ⊥) × ((before : ℕ) → before < cell.0 → IsClear p places before)
+LinesUp p places numbers (Ok lined) = ((cell : ℕ) → cell < length p.cells → IsClear p places cell) × AreLined p places numbers lined.top lined.bottom
+LinesUp p places numbers (Err cell) = (cell.0 < length p.cells) × (IsClear p places cell.0 → ⊥) × ((before : ℕ) → before < cell.0 → IsClear p places before)

@@ -1,7 +1,8 @@
 -- Where cells stand: a die and a lower left corner for each cell, in file order.
-use Rattle.std.specs.Prelude.{ℕ, Bool, true, false, List, map, get_or, ℤ, pos}
+use Rattle.std.specs.Prelude.{ℕ, List, map, get_or, ℤ, pos}
 use Rattle.fp_base.specs.declared.ids.Die.{Die}
 use Rattle.fp_base.specs.declared.ids.Die.TheVariants.{Top, Bottom}
+pub use Rattle.fp_tech.specs.Rows.{same_die}
 
 pub record Place : Type 0 where
   pub die : Die
@@ -21,12 +22,6 @@ dies_of places = map (λ place. place.die) places
 
 abbrev pub die_at : List Die → ℕ → Die
 die_at dies cell = get_or dies cell Top
-
-abbrev pub same_die : Die → Die → Bool
-same_die Top Top = true
-same_die Top Bottom = false
-same_die Bottom Top = false
-same_die Bottom Bottom = true
 
 abbrev pub other_die : Die → Die
 other_die Top = Bottom

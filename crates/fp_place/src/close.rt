@@ -5,7 +5,7 @@ ghost use Rattle.std.specs.List.{Contains};
 ghost use Rattle.std.specs.List.Sorted.{IsPermutation};
 ghost use Rattle.fp_tech.specs.Plan.{IsTermSpec};
 ghost use Rattle.fp_tech.specs.Slots.{AreApart};
-ghost use Rattle.fp_place.specs.Buckets.{column, row, bucket, row_length, entry_of, AreEntries, AreInOrder, AreFar, IsPlaced, StandsNear, IsTooClose};
+ghost use Rattle.fp_place.specs.Buckets.{column, row, bucket, entry_of, AreEntries, AreInOrder, AreFar, IsPlaced, StandsNear, IsTooClose};
 ghost use Rattle.fp_place.specs.Closeness.{IsApart, FindsClose};
 ghost use Rattle.fp_place.specs.Placed.{IsCentre};
 
@@ -211,6 +211,7 @@ mod tests {
         size_x: 6,
         size_y: 6,
         spacing: 4,
+        cost: 0,
     };
 
     fn at(x: u8, y: u8) -> Option<Point>

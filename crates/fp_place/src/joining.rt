@@ -1,6 +1,6 @@
 //! The terminals of a drawing: one for each cut net, away from the edges and from each other.
 
-ghost use Rattle.std.specs.Prelude.{◌≡◌, ◌<◌, ◌≤◌, ◌^◌, ◌+◌, ◌*◌, ◌+ℤ◌, ◌≤ℤ◌, ◌⊎◌, ◌↔◌, ℕ, pos, All, IfOk, IfSome, IsTrue, MatchResult, length};
+ghost use Rattle.std.specs.Prelude.{◌≡◌, ◌<◌, ◌≤◌, ◌+◌, ◌*◌, ◌+ℤ◌, ◌≤ℤ◌, ◌⊎◌, ◌↔◌, ℕ, pos, All, IfOk, IfSome, IsTrue, MatchResult, length};
 ghost use Rattle.fp_tech.specs.Plan.{IsTermSpec};
 ghost use Rattle.fp_tech.specs.Slots.{KeepsEdges, AreApart};
 ghost use Rattle.fp_place.specs.Places.{dies_of};
@@ -89,7 +89,7 @@ fn is_at_most(a: i64, b: i64) -> bool
     a <= b
 }
 
-// And from the edge behind it.
+// Whether a terminal of this size at a place of an axis keeps its distance from the edge behind it.
 fn keeps_high(at: i64, high: u32, size: u32, spacing: u32) -> bool
     requires { IsCoordinate at }
     ensures { IsTrue result ↔ (at +ℤ at +ℤ pos (size + 2 * spacing)) ≤ℤ pos (2 * high) }
@@ -98,7 +98,7 @@ fn keeps_high(at: i64, high: u32, size: u32, spacing: u32) -> bool
     is_at_most(at + at + reach, 2 * i64::from(high))
 }
 
-// And from both.
+// Whether a terminal of this size at a place of an axis keeps its distance from both edges.
 fn keeps_ends(at: i64, low: u32, high: u32, size: u32, spacing: u32) -> bool
     requires { IsCoordinate at }
     ensures { IsTrue result ↔ (pos (2 * low + size + 2 * spacing) ≤ℤ (at +ℤ at)) × ((at +ℤ at +ℤ pos (size + 2 * spacing)) ≤ℤ pos (2 * high)) }

@@ -17,6 +17,7 @@ mod overlap;
 mod percents;
 mod place;
 mod placement;
+mod rules;
 mod seen;
 mod settling;
 mod standing;
@@ -28,6 +29,7 @@ pub use facing::other;
 pub use judge::{Judged, Subject, verdict};
 pub use lanes::Lanes;
 pub use placement::{Placement, Spot};
+pub use rules::keeps_rules;
 
 #[cfg(test)]
 mod tests;

@@ -1,7 +1,7 @@
 //! The cells of a drawing, lined up on their segments.
 
 ghost use Rattle.std.specs.Prelude.{◌≡◌, ℕ, ◌<◌, All, IfOk, OnOk, length};
-ghost use Rattle.fp_place.specs.Lining.{IsOnRow, LinesUp};
+ghost use Rattle.fp_place.specs.Lining.{IsOnSegment, LinesUp};
 ghost use Rattle.fp_place.specs.LaneOrder.{AreByX, HoldInOrder, cells_alone, pushed, AreEmptyOn};
 ghost use Rattle.fp_place.specs.Placed.{lanes_on};
 
@@ -34,13 +34,13 @@ impl Lined {
     }
 
     // Adds a cell at the end of a segment's lane.
-    fn push(&mut self, die: Die, row: u32, cell: CellId) -> Result<(), NoMemory>
-        requires { row < length (lanes_on self.old.top self.old.bottom die) }
-        ensures { OnOk result (self.new ≡ pushed self.old die row cell) }
+    fn push(&mut self, die: Die, segment: u32, cell: CellId) -> Result<(), NoMemory>
+        requires { segment < length (lanes_on self.old.top self.old.bottom die) }
+        ensures { OnOk result (self.new ≡ pushed self.old die segment cell) }
     {
         match die {
-            Die::Top => self.top.push(SegId::new(row), cell),
-            Die::Bottom => self.bottom.push(SegId::new(row), cell),
+            Die::Top => self.top.push(SegId::new(segment), cell),
+            Die::Bottom => self.bottom.push(SegId::new(segment), cell),
         }
     }
 }
@@ -50,16 +50,16 @@ pub fn line_up(
     alloc: Global,
     problem: &Problem,
     places: &[Place],
-    rows: &[u32],
+    numbers: &[u32],
 ) -> Result<Result<Lined, CellId>, NoMemory>
     requires places { length places.now ≡ length problem.now.cells }
-    requires rows { length rows.now ≡ length problem.now.cells }
-    requires on_rows { (cell : ℕ) → cell < length problem.now.cells → IsOnRow problem.now places.now rows.now cell }
-    ensures { IfOk result (LinesUp problem.now places.now rows.now) }
+    requires numbers { length numbers.now ≡ length problem.now.cells }
+    requires on_segments { (cell : ℕ) → cell < length problem.now.cells → IsOnSegment problem.now places.now numbers.now cell }
+    ensures { IfOk result (LinesUp problem.now places.now numbers.now) }
 {
     let cells = problem.cells();
     let order = by_x(alloc, cells, places)?;
-    let lined = fill(alloc, problem, places, rows, order.as_slice())?;
+    let lined = fill(alloc, problem, places, numbers, order.as_slice())?;
     match first_overlap(problem, places, &lined) {
         Some(cell) => Ok(Err(cell)),
         None => Ok(Ok(lined)),
@@ -93,20 +93,20 @@ fn fill(
     alloc: Global,
     problem: &Problem,
     places: &[Place],
-    rows: &[u32],
+    numbers: &[u32],
     order: &[CellId],
 ) -> Result<Lined, NoMemory>
     requires places { length places.now ≡ length problem.now.cells }
-    requires rows { length rows.now ≡ length problem.now.cells }
-    requires on_rows { (cell : ℕ) → cell < length problem.now.cells → IsOnRow problem.now places.now rows.now cell }
+    requires numbers { length numbers.now ≡ length problem.now.cells }
+    requires on_segments { (cell : ℕ) → cell < length problem.now.cells → IsOnSegment problem.now places.now numbers.now cell }
     requires order { All (λ cell. cell.0 < length problem.now.cells) order.now }
-    ensures { IfOk result (λ lined. HoldInOrder problem.now places.now rows.now order.now lined.top lined.bottom) }
+    ensures { IfOk result (λ lined. HoldInOrder problem.now places.now numbers.now order.now lined.top lined.bottom) }
 {
     let mut lined = Lined::empty(alloc, problem.dies())?;
     for cell in order {
         let index = cell.0 as usize;
         let place = places[index];
-        lined.push(place.die, rows[index], *cell)?;
+        lined.push(place.die, numbers[index], *cell)?;
     }
     Ok(lined)
 }

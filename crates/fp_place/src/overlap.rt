@@ -33,8 +33,8 @@ fn first_on<S: Side>(problem: &Problem, places: &[Place], lanes: &Lanes<S>) -> O
         (IsAmongLanes lanes.now (length lanes.now)) result }
 {
     let mut first = None;
-    for row in 0..lanes.len() as u32 {
-        let lane = lanes.lane(SegId::new(row));
+    for segment in 0..lanes.len() as u32 {
+        let lane = lanes.lane(SegId::new(segment));
         first = earlier(first, first_in(problem, places, S::DIE, lane));
     }
     first

@@ -1,6 +1,6 @@
 //! How often the lines of a file name a number, and the place that they tell.
 
-ghost use Rattle.std.specs.Prelude.{◌≡◌, ◌≤◌, ◌<◌, ◌^◌, IfOk, length, replicate, Option};
+ghost use Rattle.std.specs.Prelude.{◌≡◌, ◌<◌, IfOk, replicate, Option};
 ghost use Rattle.fp_place.specs.Drawing.{centre_of};
 ghost use Rattle.fp_place.specs.Seen.{seen_again, noted, all_noted, cell_number, corner_of, net_number, place_seen};
 

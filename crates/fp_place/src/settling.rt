@@ -4,7 +4,7 @@ ghost use Rattle.std.specs.Prelude.{◌≡◌, Ok, MatchResult, length};
 ghost use Rattle.fp_place.specs.Legal.{IsClear};
 ghost use Rattle.fp_place.specs.Lining.{LinesUp};
 ghost use Rattle.fp_place.specs.FirstFaults.{IsFaultOf, cell_subject};
-ghost use Rattle.fp_place.specs.LinedUp.{AreOnRows, AreClear, IsFaultAfter};
+ghost use Rattle.fp_place.specs.LinedUp.{AreOnSegments, AreClear, IsFaultAfter};
 
 use crate::fault::Fault;
 use crate::judge::Subject;
@@ -20,14 +20,14 @@ fn check_clear(
     alloc: Global,
     problem: &Problem,
     places: &[Place],
-    rows: &[u32],
+    numbers: &[u32],
 ) -> Result<Lined, Fault>
     requires places { length places.now ≡ length problem.now.cells }
-    requires rows { length rows.now ≡ length problem.now.cells }
-    requires on_rows { AreOnRows problem.now places.now rows.now }
-    ensures { MatchResult result (λ lined. LinesUp problem.now places.now rows.now (Ok lined)) (IsFaultOf (length problem.now.cells) (IsClear problem.now places.now) 4 cell_subject) }
+    requires numbers { length numbers.now ≡ length problem.now.cells }
+    requires on_segments { AreOnSegments problem.now places.now numbers.now }
+    ensures { MatchResult result (λ lined. LinesUp problem.now places.now numbers.now (Ok lined)) (IsFaultOf (length problem.now.cells) (IsClear problem.now places.now) 4 cell_subject) }
 {
-    match line_up(alloc, problem, places, rows)? {
+    match line_up(alloc, problem, places, numbers)? {
         Ok(lined) => Ok(lined),
         Err(cell) => Err(Fault::Breaks {
             rule: 4,
@@ -41,14 +41,14 @@ pub fn settle(
     alloc: Global,
     problem: &Problem,
     places: &[Place],
-    rows: &[u32],
+    numbers: &[u32],
 ) -> Result<Lined, Fault>
     requires places { length places.now ≡ length problem.now.cells }
-    requires rows { length rows.now ≡ length problem.now.cells }
-    requires on_rows { AreOnRows problem.now places.now rows.now }
-    ensures { MatchResult result (λ lined. AreClear problem.now places.now rows.now lined.top lined.bottom) (IsFaultAfter problem.now places.now) }
+    requires numbers { length numbers.now ≡ length problem.now.cells }
+    requires on_segments { AreOnSegments problem.now places.now numbers.now }
+    ensures { MatchResult result (λ lined. AreClear problem.now places.now numbers.now lined.top lined.bottom) (IsFaultAfter problem.now places.now) }
 {
-    let lined = check_clear(alloc, problem, places, rows)?;
+    let lined = check_clear(alloc, problem, places, numbers)?;
     check_percent(problem, places, Die::Top)?;
     check_percent(problem, places, Die::Bottom)?;
     Ok(lined)

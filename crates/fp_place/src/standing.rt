@@ -1,14 +1,13 @@
 //! Where the cells of a drawing stand.
 
-ghost use Rattle.std.specs.Prelude.{◌≡◌, ◌<◌, ◌≤◌, ◌+◌, ◌*◌, ◌+ℤ◌, ◌≤ℤ◌, ◌↔◌, ℕ, pos, Some, IfOk, IsTrue, MatchResult, length, get_or, slice_get};
-ghost use Rattle.fp_tech.specs.Plan.{spec_of, segments, IsPlan};
+ghost use Rattle.std.specs.Prelude.{◌≡◌, ◌<◌, ◌+ℤ◌, ◌≤ℤ◌, ◌↔◌, ℕ, IsTrue, MatchResult, length};
+ghost use Rattle.fp_tech.specs.Plan.{segments, IsPlan};
 ghost use Rattle.fp_netlist.specs.Points.{width};
 ghost use Rattle.fp_place.specs.Areas.{fits};
-ghost use Rattle.fp_place.specs.Places.{place_at};
 ghost use Rattle.fp_place.specs.Drawing.{IsCoordinate, places_in};
 ghost use Rattle.fp_place.specs.Legal.{StandsIn, StandsOnce, StandsOnSegment, FitsItsDie};
 ghost use Rattle.fp_place.specs.FirstFaults.{IsFaultOf, IsFirstFault, cell_subject};
-ghost use Rattle.fp_place.specs.Standing.{place_once, AreFound, FindsRow, AreInRows, AreStanding};
+ghost use Rattle.fp_place.specs.Standing.{place_once, starts_by, AreFound, AreInOrder, FindsLast, FindsSegment, AreInSegments, AreStanding};
 
 use crate::drawn::Drawn;
 use crate::fault::Fault;
@@ -17,14 +16,14 @@ use crate::place::Place;
 use crate::seen::{Seen, seen_cells};
 use fp_base::{CellId, Die};
 use fp_netlist::Problem;
-use fp_tech::{DieSpec, Segment};
+use fp_tech::Segment;
 use std::alloc::Global;
 
 /// The cells' places, and for each the number of its segment.
 #[derive(Drop)]
 pub struct Standing {
     pub places: Vec<Place>,
-    pub rows: Vec<u32>,
+    pub numbers: Vec<u32>,
 }
 
 // A rule is broken by a cell.
@@ -69,25 +68,20 @@ fn find_places(alloc: Global, problem: &Problem, drawn: &Drawn) -> Result<Vec<Pl
     Ok(places)
 }
 
-// The die of a place.
-fn spec_at(problem: &Problem, place: Place) -> DieSpec
-    ensures spec { result ≡ spec_of problem.now.plan place.die }
-    ensures some_height { 1 ≤ result.height }
-    ensures plan { IsPlan problem.now.plan }
+// Whether a segment starts at a place or before it: on a lower row, or on its row at its x or to the left of it.
+fn starts_by(segment: &Segment, place: Place) -> bool
+    ensures { result ≡ starts_by segment.now place }
 {
-    problem.dies().spec(place.die)
+    segment.y < place.y || (segment.y <= place.y && segment.start <= place.x)
 }
 
-// The segment of this number, if the die of the place has it.
-fn segment_at(problem: &Problem, place: Place, row: u64) -> Option<Segment>
-    ensures { result ≡ slice_get (segments problem.now.plan place.die) row }
+// The number of the last of a die's segments that starts at a place or before it, or None where none does.
+fn last_start(segments: &[Segment], place: Place) -> Option<usize>
+    requires { AreInOrder segments.now }
+    ensures { FindsLast segments.now place result }
 {
-    let segments = problem.dies().segments_of(place.die);
-    if row < segments.len() as u64 {
-        Some(segments[row as usize])
-    } else {
-        None
-    }
+    let started = segments.partition_point(|segment| starts_by(segment, place));
+    if started > 0 { Some(started - 1) } else { None }
 }
 
 // Whether a width from x on lies within a segment.
@@ -118,58 +112,47 @@ fn stands_in(problem: &Problem, cell: CellId, place: Place, segment: Segment) ->
     lies_in(segment, place.x, width) && is_level(segment, place.y)
 }
 
-// How far a height is above another, or None below it.
-fn above(y: i64, lowest: u32) -> Option<u64>
-    ensures { (height : ℕ) → y ≡ pos (lowest + height) → result ≡ Some height }
+// The segments of the die of a place.
+fn segments_at(problem: &Problem, place: Place) -> &[Segment]
+    ensures segments { result.now ≡ segments problem.now.plan place.die }
+    ensures plan { IsPlan problem.now.plan }
+    ensures rise { AreInOrder result.now }
 {
-    let lowest = i64::from(lowest);
-    if lowest <= y {
-        Some((y - lowest) as u64)
-    } else {
-        None
-    }
+    problem.dies().segments_of(place.die)
 }
 
-// How many row heights a place stands above the lowest row, rounded down, or None below it.
-fn rows_below(spec: DieSpec, place: Place) -> Option<u64>
-    requires { 1 ≤ spec.height }
-    ensures { (row : ℕ) → place.y ≡ pos (spec.start_y + row * spec.height) → result ≡ Some row }
-{
-    let height = above(place.y, spec.start_y)?;
-    Some(height / u64::from(spec.height))
-}
-
-// The number of the segment on which a cell stands at a place, or None exactly where it stands on none.
-fn row_of(problem: &Problem, cell: CellId, place: Place) -> Option<u32>
+// The number of the segment on which a cell stands at a place, or None exactly where it stands on none. Segments rise by
+// rows and then by x and do not meet, so only the last that starts at the place or before it can hold the cell.
+fn segment_under(problem: &Problem, cell: CellId, place: Place) -> Option<u32>
     requires { cell.0 < length problem.now.cells }
-    ensures { FindsRow problem.now.plan place (width problem.now cell.0 place.die) result }
+    ensures { FindsSegment problem.now.plan place (width problem.now cell.0 place.die) result }
 {
-    let row = rows_below(spec_at(problem, place), place)?;
-    let segment = segment_at(problem, place, row)?;
-    if stands_in(problem, cell, place, segment) {
-        Some(row as u32)
+    let segments = segments_at(problem, place);
+    let number = last_start(segments, place)?;
+    if stands_in(problem, cell, place, segments[number]) {
+        Some(number as u32)
     } else {
         None
     }
 }
 
 // Rule 2: the numbers of the cells' segments.
-fn find_rows(alloc: Global, problem: &Problem, places: &[Place]) -> Result<Vec<u32>, Fault>
+fn find_segments(alloc: Global, problem: &Problem, places: &[Place]) -> Result<Vec<u32>, Fault>
     requires { length places.now ≡ length problem.now.cells }
-    ensures { MatchResult result (λ rows. AreInRows problem.now places.now rows.items) (IsFaultOf (length problem.now.cells) (StandsOnSegment problem.now places.now) 2 cell_subject) }
+    ensures { MatchResult result (λ numbers. AreInSegments problem.now places.now numbers.items) (IsFaultOf (length problem.now.cells) (StandsOnSegment problem.now places.now) 2 cell_subject) }
 {
-    let mut rows = Vec::with_capacity(alloc, problem.cells() as usize)?;
+    let mut numbers = Vec::with_capacity(alloc, problem.cells() as usize)?;
     for cell in 0..problem.cells() {
-        match row_of(problem, CellId(cell), places[cell as usize]) {
-            Some(row) => rows.push(row)?,
+        match segment_under(problem, CellId(cell), places[cell as usize]) {
+            Some(number) => numbers.push(number)?,
             None => return Err(broken_by(2, cell)),
         }
     }
-    Ok(rows)
+    Ok(numbers)
 }
 
-// Whether a cell is at most as high as the rows of a die.
-fn fits(problem: &Problem, cell: CellId, die: Die) -> bool
+/// Whether a cell is at most as high as the rows of a die.
+pub fn fits(problem: &Problem, cell: CellId, die: Die) -> bool
     requires { cell.0 < length problem.now.cells }
     ensures { result ≡ fits problem.now cell.0 die }
 {
@@ -193,11 +176,11 @@ fn check_heights(problem: &Problem, places: &[Place]) -> Result<(), Fault>
 
 /// Rules 1 to 3: the cells' places and segments, or the first break.
 pub fn stand(alloc: Global, problem: &Problem, drawn: &Drawn) -> Result<Standing, Fault>
-    ensures { MatchResult result (λ standing. AreStanding problem.now drawn.now standing.places.items standing.rows.items)
+    ensures { MatchResult result (λ standing. AreStanding problem.now drawn.now standing.places.items standing.numbers.items)
         (IsFirstFault problem.now drawn.now (places_in drawn.now (length problem.now.cells))) }
 {
     let places = find_places(alloc, problem, drawn)?;
-    let rows = find_rows(alloc, problem, &places)?;
+    let numbers = find_segments(alloc, problem, &places)?;
     check_heights(problem, &places)?;
-    Ok(Standing { places, rows })
+    Ok(Standing { places, numbers })
 }

@@ -10,4 +10,4 @@ returns c =
 
 pub build-requires-clause-range : goal.build-requires-clause-range
 build-requires-clause-range c =
-    xs_in_range c.args.problem.now c.args.places.now c.requires.lined.rows c.deref.result.now c.cells-cells.ensures.sound.plan c.requires.places c.requires.lined.on_rows (c.deref.ensures.value ∙ c.in_ok-xs.ensures)
+    xs_in_range c.args.problem.now c.args.places.now c.requires.lined.numbers c.deref.result.now c.cells-cells.ensures.sound.plan c.requires.places c.requires.lined.on_segments (c.deref.ensures.value ∙ c.in_ok-xs.ensures)

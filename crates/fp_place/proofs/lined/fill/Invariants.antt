@@ -3,4 +3,4 @@ use Rattle.fp_place.specs.LaneOrder.{HoldInOrder}
 use Rattle.fp_place.proofs.lined.fill.Given as goal
 
 abbrev pub invariant-loop-cell : goal.invariant-loop-cell
-invariant-loop-cell l = HoldInOrder l.problem l.places l.rows (take l.cell-index l.order) l.lined.top l.lined.bottom
+invariant-loop-cell l = HoldInOrder l.problem l.places l.numbers (take l.cell-index l.order) l.lined.top l.lined.bottom
