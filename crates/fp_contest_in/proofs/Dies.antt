@@ -1,71 +1,58 @@
--- From what was read to the dies that it describes.
-use Rattle.std.proofs.Common.{◌≡◌, ℕ, List, [], Option, Some, Result, Ok, Err, refl, sym, ap, subst, ◌∙◌}
-use Rattle.std.specs.Prelude.{unwrap_or}
-use Rattle.fp_base.specs.declared.ids.Die.{Die}
+-- From the technologies, the sections and the blockages that were read to the dies that they describe.
+use Rattle.std.proofs.Common.{◌≡◌, ℕ, true, false, ◌&&◌, List, Result, Ok, Err, refl, sym, ap, subst, ◌∙◌}
 use Rattle.fp_base.specs.declared.ids.Die.TheVariants.{Top, Bottom}
 use Rattle.fp_text.specs.Reading.{Left, fault, GivesFault}
-use Rattle.fp_text.specs.declared.fault.Kind.TheVariants as kinds
 use Rattle.fp_text.specs.declared.fault.TextFault.{TextFault}
 use Rattle.fp_text.specs.declared.fault.TextFault.TheVariants.{Wrong, Memory}
+use Rattle.fp_tech.specs.declared.dies.Block.{Block}
 use Rattle.fp_tech.specs.Book.{Book, no_techs, tech_names}
-use Rattle.fp_tech.specs.Plan.{Plan, Makes}
-use Rattle.fp_tech.specs.declared.dies.DiesFault.TheVariants.{RowsOutside}
-use Rattle.fp_contest_in.specs.declared.section.Setup.{Setup}
-use Rattle.fp_contest_in.specs.declared.section.RowsFound.{RowsFound}
+use Rattle.fp_tech.specs.Plan.{Plan, has_few}
 use Rattle.fp_contest_in.specs.declared.section.Found.{Found}
-use Rattle.fp_contest_in.specs.Text.{TechText, tech_name_list, with_tech_texts}
-use Rattle.fp_contest_in.specs.Statements.{die_found, techs_next, sections_next, none_found, setup_of, no_rows, setup_checked, front_next}
-use Rattle.fp_contest_in.specs.Given.{plan_with, GivesSetup, GivesFront}
+use Rattle.fp_contest_in.specs.Text.{TechText, tech_name_list, with_tech_texts, plan_of}
+use Rattle.fp_contest_in.specs.Statements.{techs_next, all_sections_next, blocks_next, front_of, few_checked, setup_of, front_next}
+use Rattle.fp_contest_in.specs.Given.{plan_with, GivesDies, GivesFront}
 use Rattle.fp_contest_in.proofs.Growth.{tech_names-grown}
 
-abbrev place_in : Option RowsFound → ℕ
-place_in o = (unwrap_or o no_rows).at
+-- the technologies were read into an empty book
+abbrev pub TechsRead : Left → Left → Book → Type 0
+TechsRead l mid book = (techs : List TechText) × (techs_next l ≡ Ok (techs, mid)) × (book ≡ with_tech_texts no_techs techs)
 
--- dies were made of the setup
-pub setup_made : (book : Book) (found : Found) (setup : Setup) (plan : Plan) (left : Left) → setup ≡ setup_of found → Makes (plan_with book setup) (Ok plan)
-    → (setup_checked found left ≡ Ok (setup_of found, left)) × (plan ≡ plan_with book (setup_of found))
-unfolding setup_checked
-setup_made book found setup plan left is made =
-    let m = subst (λ (s : Setup). Makes (plan_with book s) (Ok plan)) is made in
-    (rw (m.0, m.1) refl, m.2)
+pub techs_read : (l mid : Left) (old book : Book) → old ≡ no_techs → (techs : List TechText) × (techs_next l ≡ Ok (techs, mid)) × (book ≡ with_tech_texts old techs) → TechsRead l mid book
+techs_read l mid old book empty t = (t.0, t.1, t.2 ∙ ap (λ b. with_tech_texts b t.0) empty)
 
--- the rows of a die leave the frame
-pub setup_refused : (book : Book) (found : Found) (setup : Setup) (die : Die) (rows : RowsFound) (left : Left) → setup ≡ setup_of found → Makes (plan_with book setup) (Err (RowsOutside die))
-    → (die_found found die).rows ≡ Some rows → setup_checked found left ≡ fault rows.at kinds.Rows
-unfolding setup_checked
-setup_refused book found setup Top rows left is made at =
-    let m = subst (λ (s : Setup). Makes (plan_with book s) (Err (RowsOutside Top))) is made in
-    rw m (ap (λ (o : Option RowsFound). fault (place_in o) kinds.Rows) at)
-setup_refused book found setup Bottom rows left is made at =
-    let m = subst (λ (s : Setup). Makes (plan_with book s) (Err (RowsOutside Bottom))) is made in
-    rw (m.0, m.1) (ap (λ (o : Option RowsFound). fault (place_in o) kinds.Rows) at)
-
--- the technologies that were read into an empty book
 names_read : (book : Book) (techs : List TechText) → book ≡ with_tech_texts no_techs techs → tech_names book ≡ tech_name_list techs
 names_read book techs is = ap tech_names is ∙ tech_names-grown no_techs techs
 
-pub front_fault : (e : TextFault) (old book : Book) (l mid : Left) → old ≡ no_techs → (techs : List TechText) × (techs_next l ≡ Ok (techs, mid)) × (book ≡ with_tech_texts old techs)
-    → GivesFault e (sections_next (tech_names book) 9 none_found mid) → GivesFault e (front_next l)
+pub sections_fail : (e : TextFault) (book : Book) (l mid : Left) → TechsRead l mid book → GivesFault e (all_sections_next (tech_names book) mid) → GivesFault e (front_next l)
 unfolding front_next
-front_fault Memory old book l mid empty techs fails = tt
-front_fault (Wrong at kind) old book l mid empty techs fails =
-    let names = names_read book techs.0 (techs.2 ∙ ap (λ b. with_tech_texts b techs.0) empty) in
-    let gone : sections_next (tech_name_list techs.0) 9 none_found mid ≡ fault at kind = ap (λ (ns : List (List ℕ)). sections_next ns 9 none_found mid) (sym names) ∙ fails in
+sections_fail Memory book l mid techs fails = tt
+sections_fail (Wrong at kind) book l mid techs fails =
+    let gone : all_sections_next (tech_name_list techs.0) mid ≡ fault at kind = ap (λ (ns : List (List ℕ)). all_sections_next ns mid) (sym (names_read book techs.0 techs.2)) ∙ fails in
     rw (techs.1, gone) refl
 
-pub front_done : (result : Result Plan TextFault) (old book : Book) (found : Found) (l mid after : Left) → old ≡ no_techs → (techs : List TechText) × (techs_next l ≡ Ok (techs, mid)) × (book ≡ with_tech_texts old techs)
-    → sections_next (tech_names book) 9 none_found mid ≡ Ok (found, after) → ((left : Left) → GivesSetup book found result left (setup_checked found left)) → GivesFront result after (front_next l)
+-- the sections were read behind them
+abbrev pub FoundRead : Book → Left → Found → Left → Type 0
+FoundRead book l found r = all_sections_next (tech_names book) l ≡ Ok (found, r)
+
+found_read : (book : Book) (l mid : Left) (found : Found) (after : Left) → (techs : TechsRead l mid book) → FoundRead book mid found after → all_sections_next (tech_name_list techs.0) mid ≡ Ok (found, after)
+found_read book l mid found after techs read = ap (λ (ns : List (List ℕ)). all_sections_next ns mid) (sym (names_read book techs.0 techs.2)) ∙ read
+
+pub blocks_fail : (e : TextFault) (book : Book) (found : Found) (l mid after : Left) → TechsRead l mid book → FoundRead book mid found after → GivesFault e (blocks_next after) → GivesFault e (front_next l)
 unfolding front_next
-front_done (Err Memory) old book found l mid after empty techs read gives = tt
-front_done (Err (Wrong at kind)) old book found l mid after empty techs read gives =
-    let names = names_read book techs.0 (techs.2 ∙ ap (λ b. with_tech_texts b techs.0) empty) in
-    let sections : sections_next (tech_name_list techs.0) 9 none_found mid ≡ Ok (found, after) = ap (λ (ns : List (List ℕ)). sections_next ns 9 none_found mid) (sym names) ∙ read in
-    rw (techs.1, sections, gives after) refl
-front_done (Ok plan) old book found l mid after empty techs read gives =
-    let names = names_read book techs.0 (techs.2 ∙ ap (λ b. with_tech_texts b techs.0) empty) in
-    let sections : sections_next (tech_name_list techs.0) 9 none_found mid ≡ Ok (found, after) = ap (λ (ns : List (List ℕ)). sections_next ns 9 none_found mid) (sym names) ∙ read in
-    let setup = gives after in (
-      record { techs = techs.0; setup = setup_of found; insts = []; nets = [] },
-      rw (techs.1, sections, setup.0) refl,
-      setup.1 ∙ ap (λ (b : Book). plan_with b (setup_of found)) (techs.2 ∙ ap (λ b. with_tech_texts b techs.0) empty),
-    )
+blocks_fail Memory book found l mid after techs read fails = tt
+blocks_fail (Wrong at kind) book found l mid after techs read fails = rw (techs.1, found_read book l mid found after techs read, fails) refl
+
+pub front_done : (result : Result Plan TextFault) (book : Book) (found : Found) (at : ℕ) (blocks : List Block) (l mid after end : Left) → TechsRead l mid book → FoundRead book mid found after
+    → blocks_next after ≡ Ok ((at, blocks), end) → GivesDies (plan_with book (setup_of found) blocks) at result → GivesFront result end (front_next l)
+unfolding front_next few_checked
+front_done (Err Memory) book found at blocks l mid after end techs read listed gives = tt
+front_done (Err (Wrong where_at kind)) book found at blocks l mid after end techs read listed gives =
+    let plan : plan_with book (setup_of found) blocks ≡ plan_of (front_of techs.0 found blocks) = ap (λ (b : Book). plan_with b (setup_of found) blocks) techs.2 in
+    let few : (has_few (plan_of (front_of techs.0 found blocks)) Top && has_few (plan_of (front_of techs.0 found blocks)) Bottom) ≡ false =
+    subst (λ (p : Plan). (has_few p Top && has_few p Bottom) ≡ false) plan gives.0 in
+    rw (techs.1, found_read book l mid found after techs read, listed, few) (λ i. fault (sym gives.1 i) (sym gives.2 i))
+front_done (Ok dies) book found at blocks l mid after end techs read listed gives =
+    let plan : plan_with book (setup_of found) blocks ≡ plan_of (front_of techs.0 found blocks) = ap (λ (b : Book). plan_with b (setup_of found) blocks) techs.2 in
+    let few : (has_few (plan_of (front_of techs.0 found blocks)) Top && has_few (plan_of (front_of techs.0 found blocks)) Bottom) ≡ true =
+    subst (λ (p : Plan). (has_few p Top && has_few p Bottom) ≡ true) plan gives.0 in
+    (front_of techs.0 found blocks, rw (techs.1, found_read book l mid found after techs read, listed, few) refl, gives.1 ∙ plan)

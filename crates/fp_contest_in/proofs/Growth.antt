@@ -12,7 +12,7 @@ use Rattle.fp_tech.specs.Book.{Pin, Lib, Book, place_of, tech_names, libs_of, li
 use Rattle.fp_tech.specs.BookLaws.{techs-with_lib, techs-with_pin, tech_names-with_lib, tech_names-with_pin, libs_of-with_lib, libs_of-with_pin, has-with_pin, pins_in-with_pin, place_within, libs_of-with_tech_new, tech_names-with_tech}
 use Rattle.fp_contest_in.specs.Text.{LibText, TechText, grown, with_pins, with_lib_text, with_lib_texts, with_tech_text}
 use Rattle.fp_contest_in.specs.Growing.{Knows}
-use Rattle.fp_contest_in.proofs.Names.{place_same, place_stays, place-push, is_among-push}
+use Rattle.fp_contest_in.specs.NamesLaws.{place_same, place_stays, place-push, is_among-push}
 
 -- ---- a loop
 

@@ -1,14 +1,5 @@
-pub mod Taken
-pub mod TechsAgree
-pub mod Bits
-pub mod Names
-pub mod Fields
-pub mod FieldsAgain
-pub mod SectionsAgree
-pub mod Paths
-pub mod InstsAgree
-pub mod NetsAgree
-pub mod Whole
+pub mod BlockLoop
+pub mod NamesRead
 pub mod Problems
 pub mod ProblemLoops
 pub mod Additions
@@ -21,9 +12,6 @@ pub mod Pieces
 pub mod PrintedTechs
 pub mod PrintedNets
 pub mod PrintedSections
-pub mod PrintedWords
-pub mod PrintedTechWords
-pub mod PrintedNetWords
 pub mod ReadsBack
 pub mod SaidBooks
 pub mod SaidNets

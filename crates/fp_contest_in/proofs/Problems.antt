@@ -11,7 +11,7 @@ use Rattle.fp_contest_in.specs.Grammar.{Reads}
 use Rattle.fp_contest_in.specs.Statements.{front_next, insts_next, nets_next, netlist_next, problem_next, problem_of, GivesProblem}
 use Rattle.fp_contest_in.specs.ProblemLaws.{nets-with_inst_texts, conns-with_inst_texts}
 use Rattle.fp_contest_in.specs.Given.{GivesNetlist}
-use Rattle.fp_contest_in.proofs.Whole.{read_is_in, is_in_read}
+use Rattle.fp_contest_in.specs.ReadsLaws.{read_is_in, is_in_read}
 
 -- ---- the instances, the nets and the end
 

@@ -8,7 +8,7 @@ use Rattle.fp_tech.specs.BookLaws.{place_within, slice_get-front}
 use Rattle.fp_tech.specs.LibNameLaws.{name_at-place, name_at-with_name}
 use Rattle.fp_contest_in.specs.Text.{LibText, TechText, lib_name_list, grown, with_pins, with_lib_text, with_lib_texts, with_tech_texts}
 use Rattle.fp_contest_in.specs.PrintedText.{lib_said, tech_said}
-use Rattle.fp_contest_in.proofs.Names.{AreNew, not_among, same_bytes}
+use Rattle.fp_contest_in.specs.NamesLaws.{AreNew, not_among, same_bytes}
 
 -- ---- numbers of library cells
 

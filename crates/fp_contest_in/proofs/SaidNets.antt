@@ -3,8 +3,6 @@ use Rattle.std.proofs.Common.{◌≡◌, ℕ, ◌+◌, ◌<◌, ◌≤◌, ◌==
 use Rattle.std.proofs.lemmas.List.{append-nil, length-append}
 use Rattle.std.proofs.lemmas.List.Elements.{filter-append}
 use Rattle.std.proofs.lemmas.Bool.{ne_eqb, eq-eqb, and_parts}
-use Rattle.fp_text.specs.Words.{Word}
-use Rattle.fp_text.specs.ReadingLaws.{Each}
 use Rattle.fp_base.specs.declared.ids.Die.TheVariants.{Top}
 use Rattle.fp_tech.specs.Book.{Pin, Lib, place_of, name_at, pin_names, id_for, lib_in}
 use Rattle.fp_tech.specs.LibNameLaws.{name_at-place}
@@ -14,9 +12,10 @@ use Rattle.fp_netlist.specs.Netlist.{Cell, Netlist, no_cells, lib_of, lib_at, co
 use Rattle.fp_netlist.specs.Points.{no_lib, no_pin, lib_on, pin_on}
 use Rattle.fp_contest_in.specs.Text.{InstText, ConnText, NetText, ProblemText, net_name_list, grown, plan_of, with_net_text, with_net_texts, cells_of, netlist_of}
 use Rattle.fp_contest_in.specs.ProblemLaws.{cell_of, insts_added, conns_added, plan-with_net_texts, cells-with_net_texts, nets-with_net_texts}
-use Rattle.fp_contest_in.specs.Grammar.{has_lib, has_pin, IsNewInst, IsNetPin, IsNewNet}
+use Rattle.fp_contest_in.specs.Grammar.{has_lib, has_pin}
+use Rattle.fp_contest_in.specs.Printable.{EachIs, IsInstText, IsConnText, IsNetText}
 use Rattle.fp_contest_in.specs.PrintedText.{inst_said, conn_said, net_conns, nets_said}
-use Rattle.fp_contest_in.proofs.Names.{place_is}
+use Rattle.fp_contest_in.specs.NamesLaws.{place_is}
 
 -- ---- instances
 
@@ -27,10 +26,10 @@ lib_named_again plan lib known = by (place_of lib plan.book.names) refl (and_par
     by None e there = absurd (let no : false ≡ true = there in cc)
     by (Some p) e there = name_at-place plan.book.names lib p e
 
-pub insts_are_said : (plan : Plan) (before insts : List InstText) (words rest : List Word) → Each (IsNewInst plan) before insts words rest → map (inst_said plan.book.names) (map (cell_of plan) insts) ≡ insts
-insts_are_said plan before [] words rest each = refl
-insts_are_said plan before (inst ∷ insts) words rest each =
-    (λ i. record { name = inst.name; lib = lib_named_again plan inst.lib each.1.0.known i } ∷ insts_are_said plan (before ++ inst ∷ []) insts each.0 rest each.2 i)
+pub insts_are_said : (plan : Plan) (before insts : List InstText) → EachIs (IsInstText plan) before insts → map (inst_said plan.book.names) (map (cell_of plan) insts) ≡ insts
+insts_are_said plan before [] each = refl
+insts_are_said plan before (inst ∷ insts) each =
+    (λ i. record { name = inst.name; lib = lib_named_again plan inst.lib each.0.known i } ∷ insts_are_said plan (before ++ inst ∷ []) insts each.1 i)
 
 -- ---- the netlist of a problem
 
@@ -115,14 +114,13 @@ abbrev pub AllKnown : Netlist → List NetText → Type 0
 AllKnown p [] = Unit {0}
 AllKnown p (net ∷ nets) = Known p net.pins × AllKnown p nets
 
-pub conns_known : (p : Netlist) (before conns : List ConnText) (words rest : List Word) → Each (λ before. IsNetPin p) before conns words rest → Known p conns
-conns_known p before [] words rest each = tt
-conns_known p before (conn ∷ conns) words rest each = (each.1.known, conns_known p (before ++ conn ∷ []) conns each.0 rest each.2)
+conns_known : (p : Netlist) (before conns : List ConnText) → EachIs (λ before. IsConnText p) before conns → Known p conns
+conns_known p before [] each = tt
+conns_known p before (conn ∷ conns) each = (each.0.known, conns_known p (before ++ conn ∷ []) conns each.1)
 
-pub nets_known : (p : Netlist) (before nets : List NetText) (words rest : List Word) → Each (IsNewNet p) before nets words rest → AllKnown p nets
-nets_known p before [] words rest each = tt
-nets_known p before (net ∷ nets) words rest each =
-    (conns_known p [] net.pins each.1.0.after_count each.0 each.1.0.items, nets_known p (before ++ net ∷ []) nets each.0 rest each.2)
+pub nets_known : (p : Netlist) (before nets : List NetText) → EachIs (IsNetText p) before nets → AllKnown p nets
+nets_known p before [] each = tt
+nets_known p before (net ∷ nets) each = (conns_known p [] net.pins each.0.conns, nets_known p (before ++ net ∷ []) nets each.1)
 
 -- what is known of pins stays with other nets and connections
 conns_still_known : (p : Netlist) (names : List (List ℕ)) (all : List Conn) (conns : List ConnText) → Known p conns → Known (record p { nets = names; conns = all }) conns

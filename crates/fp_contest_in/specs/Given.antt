@@ -1,25 +1,33 @@
 -- What the parts of the reader answer.
-use Rattle.std.specs.Prelude.{◌≡◌, ℕ, List, true, is_some, Result, Ok, Err}
+use Rattle.std.specs.Prelude.{◌≡◌, ◌&&◌, ℕ, List, true, false, is_some, Result, Ok, Err}
 use Rattle.fp_base.specs.declared.ids.Die.TheVariants.{Top, Bottom}
 use Rattle.fp_base.specs.declared.ids.LibId.{LibId}
 use Rattle.fp_text.specs.Reading.{Left, Read, Fault, GivesFault}
+use Rattle.fp_text.specs.declared.fault.Kind.TheVariants.{Limit}
 use Rattle.fp_text.specs.declared.fault.TextFault.{TextFault}
+use Rattle.fp_text.specs.declared.fault.TextFault.TheVariants.{Wrong, Memory}
 use Rattle.fp_tech.specs.Book.{Book, id_for}
-use Rattle.fp_tech.specs.Plan.{Plan}
+use Rattle.fp_tech.specs.declared.dies.Block.{Block}
+use Rattle.fp_tech.specs.Plan.{Plan, has_few}
 use Rattle.fp_netlist.specs.Netlist.{Netlist, no_cells, lib_for}
 use Rattle.fp_contest_in.specs.declared.section.Found.{Found}
 use Rattle.fp_contest_in.specs.declared.section.Setup.{Setup}
 use Rattle.fp_contest_in.specs.Text.{InstText, NetText, ProblemText, plan_of, with_inst_texts, with_net_texts}
-use Rattle.fp_contest_in.specs.Statements.{setup_of}
 
--- the dies of a book and a setup
-abbrev pub plan_with : Book → Setup → Plan
-plan_with book setup = record { book = book; frame = setup.frame; top = setup.top; bottom = setup.bottom; terminal = setup.terminal }
+-- the dies of a book, a setup and blockages
+abbrev pub plan_with : Book → Setup → List Block → Plan
+plan_with book setup blocks = record { book = book; frame = setup.frame; top = setup.top; bottom = setup.bottom; terminal = setup.terminal; blocks = blocks }
 
--- the dies of what the sections said, or the fault of their rows
-abbrev pub GivesSetup : Book → Found → Result Plan TextFault → Left → Read Setup → Type 0
-GivesSetup book found (Ok plan) left read = (read ≡ Ok (setup_of found, left)) × (plan ≡ plan_with book (setup_of found))
-GivesSetup book found (Err e) left read = GivesFault e read
+-- the rows lie in the frame, or the fault
+abbrev pub GivesRows : {U : Type 0} → Found → Result U TextFault → Left → Read Found → Type 0
+GivesRows found (Ok u) left read = read ≡ Ok (found, left)
+GivesRows found (Err e) left read = GivesFault e read
+
+-- dies of a plan whose rows lie in the frame, or `Limit` at this place where a die has too many segments
+abbrev pub GivesDies : Plan → ℕ → Result Plan TextFault → Type 0
+GivesDies plan at (Ok dies) = (has_few plan Top && has_few plan Bottom ≡ true) × (dies ≡ plan)
+GivesDies plan at (Err (Wrong where_at kind)) = (has_few plan Top && has_few plan Bottom ≡ false) × (where_at ≡ at) × (kind ≡ Limit)
+GivesDies plan at (Err Memory) = Unit {0}
 
 -- the dies of what was read so far, or the fault
 abbrev pub GivesFront : Result Plan TextFault → Left → Read ProblemText → Type 0

@@ -1,17 +1,18 @@
 -- The grammar of the input file, as a relation between a problem and the tokens that spell it: each statement
 -- takes the first words, and the rest follow.
-use Rattle.std.specs.Prelude.{◌≡◌, ◌≢◌, ℕ, ◌+◌, ◌-◌, ◌^◌, Bool, true, false, ◌==◌, ◌&&◌, if◌then◌else◌, List, [], ◌∷◌, ◌++◌, length, All, Some, is_some, slice_get, codes}
+use Rattle.std.specs.Prelude.{◌≡◌, ◌≢◌, ◌⊎◌, ℕ, ◌+◌, ◌-◌, ◌^◌, Bool, true, false, ◌==◌, ◌&&◌, if◌then◌else◌, List, [], ◌∷◌, ◌++◌, length, All, Some, is_some, slice_get, codes}
 use Rattle.fp_base.specs.declared.ids.Die.{Die}
 use Rattle.fp_base.specs.declared.ids.Die.TheVariants.{Top, Bottom}
 use Rattle.fp_text.specs.Words.{Word, words_of}
 use Rattle.fp_text.specs.Numbers.{is_name, Spells}
-use Rattle.fp_text.specs.ReadingLaws.{Each}
+use Rattle.fp_text.specs.Items.{Each}
+use Rattle.fp_tech.specs.declared.dies.Block.{Block}
 use Rattle.fp_tech.specs.declared.dies.DieSpec.{DieSpec}
 use Rattle.fp_tech.specs.Book.{Pin, is_among, has_name}
-use Rattle.fp_tech.specs.Plan.{Plan, rows_lie}
+use Rattle.fp_tech.specs.Plan.{Plan, rows_lie, has_few}
 use Rattle.fp_netlist.specs.Netlist.{Cell, Netlist, pin_place}
 use Rattle.fp_contest_in.specs.declared.section.Section.{Section}
-use Rattle.fp_contest_in.specs.declared.section.Section.TheVariants.{DieSize, MaxUtil, Rows, Tech, TerminalSize, TerminalSpacing}
+use Rattle.fp_contest_in.specs.declared.section.Section.TheVariants.{DieSize, MaxUtil, Rows, Tech, TerminalSize, TerminalSpacing, TerminalCost}
 use Rattle.fp_contest_in.specs.declared.section.Setup.{Setup}
 use Rattle.fp_contest_in.specs.Text.{LibText, TechText, InstText, ConnText, NetText, ProblemText, pin_name_list, lib_name_list, tech_name_list, inst_name_list, net_name_list, conn_count, plan_of, cells_of}
 
@@ -109,6 +110,7 @@ keyword_of (Tech Top) = codes "TopDieTech"
 keyword_of (Tech Bottom) = codes "BottomDieTech"
 keyword_of TerminalSize = codes "TerminalSize"
 keyword_of TerminalSpacing = codes "TerminalSpacing"
+keyword_of TerminalCost = codes "TerminalCost"
 
 -- a die's technology by its name: that of the technology of this number
 abbrev pub NamesTech : List TechText → ℕ → List Word → List Word → Type 0
@@ -124,12 +126,13 @@ HasFields techs setup (Rows die) = Numbers (any_number (die_of setup die).start_
 HasFields techs setup (Tech die) = NamesTech techs (die_of setup die).tech.0
 HasFields techs setup TerminalSize = Numbers (ranged 1 most_number setup.terminal.size_x ∷ ranged 1 most_number setup.terminal.size_y ∷ [])
 HasFields techs setup TerminalSpacing = Numbers (any_number setup.terminal.spacing ∷ [])
+HasFields techs setup TerminalCost = Numbers (any_number setup.terminal.cost ∷ [])
 
 -- a section: its keyword and its fields
 abbrev pub IsSection : List TechText → Setup → Section → List Word → List Word → Type 0
 IsSection techs setup section words rest = (mid : List Word) × Keyword (keyword_of section) words mid × HasFields techs setup section mid rest
 
--- the place of a section in the usual order
+-- the place of a section in the usual order, the cost behind the nine
 abbrev pub section_number : Section → ℕ
 section_number DieSize = 0
 section_number (MaxUtil Top) = 1
@@ -140,6 +143,7 @@ section_number (Tech Top) = 5
 section_number (Tech Bottom) = 6
 section_number TerminalSize = 7
 section_number TerminalSpacing = 8
+section_number TerminalCost = 9
 
 abbrev pub is_in : Section → List Section → Bool
 is_in section [] = false
@@ -149,13 +153,51 @@ is_in section (first ∷ others) = if section_number first == section_number sec
 abbrev pub IsNewSection : List TechText → Setup → List Section → Section → List Word → List Word → Type 0
 IsNewSection techs setup before section words rest = IsSection techs setup section words rest × (is_in section before ≡ false)
 
--- the nine sections, each once, in some order; the rows of both dies lie in the frame
+-- one of the nine sections that every input has
+abbrev pub is_needed : Section → Bool
+is_needed DieSize = true
+is_needed (MaxUtil die) = true
+is_needed (Rows die) = true
+is_needed (Tech die) = true
+is_needed TerminalSize = true
+is_needed TerminalSpacing = true
+is_needed TerminalCost = false
+
+-- the nine sections, each once, in some order, and the cost of a terminal at most once among them or behind, which is 0 where it is
+-- not told; the rows of both dies lie in the frame
 pub record AreSections (techs : List TechText) (setup : Setup) (words rest : List Word) : Type 0 where
   pub order : List Section
-  pub nine : length order ≡ 9
   pub each : Each (IsNewSection techs setup) [] order words rest
+  pub nine : (section : Section) → is_needed section ≡ true → is_in section order ≡ true
+  pub no_cost : is_in TerminalCost order ≡ false → setup.terminal.cost ≡ 0
   pub top_lies : rows_lie setup.frame setup.top ≡ true
   pub bottom_lies : rows_lie setup.frame setup.bottom ≡ true
+
+-- the word for a blockage's die
+abbrev pub die_word : Die → List ℕ
+die_word Top = codes "Top"
+die_word Bottom = codes "Bottom"
+
+-- `Blockage die llx lly urx ury`
+pub record IsBlockage (block : Block) (words rest : List Word) : Type 0 where
+  pub after_keyword : List Word
+  pub after_die : List Word
+  pub keyword : Keyword (codes "Blockage") words after_keyword
+  pub die : Keyword (die_word block.die) after_keyword after_die
+  pub corners : Numbers (any_number block.llx ∷ any_number block.lly ∷ ranged (block.llx + 1) most_number block.urx
+      ∷ ranged (block.lly + 1) most_number block.ury ∷ []) after_die rest
+
+-- `NumBlockages n`, then n blockages
+pub record AreListedBlockages (blocks : List Block) (words rest : List Word) : Type 0 where
+  pub after_keyword : List Word
+  pub after_count : List Word
+  pub keyword : Keyword (codes "NumBlockages") words after_keyword
+  pub count : Numbers (ranged 0 1024 (length blocks) ∷ []) after_keyword after_count
+  pub items : Each (λ before. IsBlockage) [] blocks after_count rest
+
+-- the blockages, or no word of them where there are none
+abbrev pub AreBlockages : List Block → List Word → List Word → Type 0
+AreBlockages blocks words rest = AreListedBlockages blocks words rest ⊎ ((blocks ≡ []) × (words ≡ rest))
 
 -- the technologies of both dies have a library cell of that name
 abbrev pub has_lib : Plan → List ℕ → Bool
@@ -233,14 +275,18 @@ pub record AreNets (p : Netlist) (nets : List NetText) (words rest : List Word) 
   pub count : Numbers (ranged 0 (2 ^ 18) (length nets) ∷ []) after_keyword after_count
   pub items : Each (IsNewNet p) [] nets after_count rest
 
--- the words of a whole file
+-- the words of a whole file; neither die has more than 2^16 segments
 pub record IsProblem (text : ProblemText) (words : List Word) : Type 0 where
   pub after_techs : List Word
   pub after_sections : List Word
+  pub after_blocks : List Word
   pub after_instances : List Word
   pub techs : AreTechs text.techs words after_techs
   pub sections : AreSections text.techs text.setup after_techs after_sections
-  pub instances : AreInsts (plan_of text) text.insts after_sections after_instances
+  pub blocks : AreBlockages text.blocks after_sections after_blocks
+  pub top_few : has_few (plan_of text) Top ≡ true
+  pub bottom_few : has_few (plan_of text) Bottom ≡ true
+  pub instances : AreInsts (plan_of text) text.insts after_blocks after_instances
   pub nets : AreNets (cells_of text) text.nets after_instances []
 
 -- the bytes are an input file that says this problem

@@ -1,17 +1,18 @@
 -- The canonical text of an input file: one statement a line, single spaces, a line feed behind each line, plain decimal
 -- numbers, and the sections in the usual order.
-use Rattle.std.specs.Prelude.{ℕ, ◌+◌, ◌==◌, List, [], ◌∷◌, ◌++◌, length, map, filter, flat_map, codes, decimal}
+use Rattle.std.specs.Prelude.{ℕ, ◌+◌, ◌==◌, if◌then◌else◌, List, [], ◌∷◌, ◌++◌, length, map, filter, flat_map, codes, decimal}
 use Rattle.fp_base.specs.declared.ids.Die.TheVariants.{Top, Bottom}
+use Rattle.fp_tech.specs.declared.dies.Block.{Block}
 use Rattle.fp_tech.specs.Book.{Pin, Lib, Tech, name_at}
 use Rattle.fp_tech.specs.Plan.{Plan}
 use Rattle.fp_netlist.specs.declared.problem.Conn.{Conn}
 use Rattle.fp_netlist.specs.Netlist.{Cell, Netlist}
 use Rattle.fp_netlist.specs.Points.{pin_on}
 use Rattle.fp_contest_in.specs.declared.section.Section.{Section}
-use Rattle.fp_contest_in.specs.declared.section.Section.TheVariants.{DieSize, MaxUtil, Rows, Tech as TechName, TerminalSize, TerminalSpacing}
+use Rattle.fp_contest_in.specs.declared.section.Section.TheVariants.{DieSize, MaxUtil, Rows, Tech as TechName, TerminalSize, TerminalSpacing, TerminalCost}
 use Rattle.fp_contest_in.specs.declared.section.Setup.{Setup}
 use Rattle.fp_contest_in.specs.Text.{LibText, TechText, InstText, ConnText, NetText, ProblemText, inst_name_list, tech_name_list}
-use Rattle.fp_contest_in.specs.Grammar.{die_of, keyword_of, slash}
+use Rattle.fp_contest_in.specs.Grammar.{die_of, die_word, keyword_of, slash}
 
 -- a word behind a space, and a line of words
 abbrev pub spaced : List ℕ → List ℕ
@@ -52,6 +53,7 @@ section_fields techs setup (Rows die) =
 section_fields techs setup (TechName die) = name_at techs (die_of setup die).tech.0 ∷ []
 section_fields techs setup TerminalSize = numbers (setup.terminal.size_x ∷ setup.terminal.size_y ∷ [])
 section_fields techs setup TerminalSpacing = numbers (setup.terminal.spacing ∷ [])
+section_fields techs setup TerminalCost = numbers (setup.terminal.cost ∷ [])
 
 abbrev pub section_line : List (List ℕ) → Setup → Section → List ℕ
 section_line techs setup section = line (keyword_of section) (section_fields techs setup section)
@@ -59,8 +61,23 @@ section_line techs setup section = line (keyword_of section) (section_fields tec
 abbrev pub usual_order : List Section
 usual_order = DieSize ∷ MaxUtil Top ∷ MaxUtil Bottom ∷ Rows Top ∷ Rows Bottom ∷ TechName Top ∷ TechName Bottom ∷ TerminalSize ∷ TerminalSpacing ∷ []
 
+-- a cost of 0 is not told
+abbrev pub order_of : Setup → List Section
+order_of setup = if setup.terminal.cost == 0 then usual_order else usual_order ++ TerminalCost ∷ []
+
 abbrev pub sections_lines : List (List ℕ) → Setup → List ℕ
-sections_lines techs setup = flat_map (section_line techs setup) usual_order
+sections_lines techs setup = flat_map (section_line techs setup) (order_of setup)
+
+abbrev pub block_line : Block → List ℕ
+block_line block = line (codes "Blockage") (die_word block.die ∷ numbers (block.llx ∷ block.lly ∷ block.urx ∷ block.ury ∷ []))
+
+abbrev pub listed_blocks_lines : List Block → List ℕ
+listed_blocks_lines blocks = line (codes "NumBlockages") (numbers (length blocks ∷ [])) ++ flat_map block_line blocks
+
+-- the blockages, where there is one
+abbrev pub blocks_lines : List Block → List ℕ
+blocks_lines [] = []
+blocks_lines (block ∷ blocks) = listed_blocks_lines (block ∷ blocks)
 
 abbrev pub inst_line : InstText → List ℕ
 inst_line inst = line (codes "Inst") (inst.name ∷ inst.lib ∷ [])
@@ -83,7 +100,7 @@ nets_lines insts nets = line (codes "NumNets") (numbers (length nets ∷ [])) ++
 
 abbrev pub text_lines : ProblemText → List ℕ
 text_lines text =
-    techs_lines text.techs ++ sections_lines (tech_name_list text.techs) text.setup ++ insts_lines text.insts ++ nets_lines (inst_name_list text.insts) text.nets
+    techs_lines text.techs ++ sections_lines (tech_name_list text.techs) text.setup ++ blocks_lines text.blocks ++ insts_lines text.insts ++ nets_lines (inst_name_list text.insts) text.nets
 
 -- ---- what a netlist says
 
@@ -119,6 +136,7 @@ abbrev pub text_said : Netlist → ProblemText
 text_said p = record {
   techs = map (tech_said p.plan.book.names) p.plan.book.techs;
   setup = setup_said p.plan;
+  blocks = p.plan.blocks;
   insts = map (inst_said p.plan.book.names) p.cells;
   nets = nets_said p 0 p.nets;
 }

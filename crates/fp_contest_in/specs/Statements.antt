@@ -5,22 +5,23 @@ use Rattle.fp_base.specs.declared.ids.Die.{Die}
 use Rattle.fp_base.specs.declared.ids.Die.TheVariants.{Top, Bottom}
 use Rattle.fp_base.specs.declared.ids.TechId.{TechId}
 use Rattle.fp_text.specs.Numbers.{is_name}
-use Rattle.fp_text.specs.Reading.{Left, Read, Fault, fault, whole, ◌>>=◌, word_next, keyword_next, name_next, number_next, end_next, many_next, GivesFault}
+use Rattle.fp_text.specs.Reading.{Left, Read, Fault, fault, whole, ◌>>=◌, begins, word_next, keyword_next, name_next, number_next, end_next, many_next, GivesFault}
 use Rattle.fp_text.specs.declared.fault.Kind.TheVariants as kinds
 use Rattle.fp_text.specs.declared.fault.TextFault.{TextFault}
+use Rattle.fp_tech.specs.declared.dies.Block.{Block}
 use Rattle.fp_tech.specs.declared.dies.Frame.{Frame}
 use Rattle.fp_tech.specs.declared.dies.DieSpec.{DieSpec}
 use Rattle.fp_tech.specs.Book.{Pin, is_among, place_of}
-use Rattle.fp_tech.specs.Plan.{Plan, rows_lie}
+use Rattle.fp_tech.specs.Plan.{Plan, rows_lie, has_few}
 use Rattle.fp_contest_in.specs.declared.section.Section.{Section}
-use Rattle.fp_contest_in.specs.declared.section.Section.TheVariants.{DieSize, MaxUtil, Rows, Tech, TerminalSize, TerminalSpacing}
+use Rattle.fp_contest_in.specs.declared.section.Section.TheVariants.{DieSize, MaxUtil, Rows, Tech, TerminalSize, TerminalSpacing, TerminalCost}
 use Rattle.fp_contest_in.specs.declared.section.RowsFound.{RowsFound}
 use Rattle.fp_contest_in.specs.declared.section.DieFound.{DieFound}
 use Rattle.fp_contest_in.specs.declared.section.Found.{Found}
 use Rattle.fp_contest_in.specs.declared.section.Setup.{Setup}
 use Rattle.fp_netlist.specs.Netlist.{Netlist, no_cells, cell_names}
 use Rattle.fp_contest_in.specs.Text.{LibText, TechText, InstText, ConnText, NetText, ProblemText, pin_name_list, lib_name_list, tech_name_list, inst_name_list, net_name_list, conn_count, plan_of, with_inst_texts, netlist_of}
-use Rattle.fp_contest_in.specs.Grammar.{keyword_of, most_number, has_lib, slash, has_pin, most_conns}
+use Rattle.fp_contest_in.specs.Grammar.{keyword_of, die_word, most_number, has_lib, slash, has_pin, most_conns}
 
 -- a name that is not among those before it
 unfoldable pub new_name_next : List (List ℕ) → Left → Read (List ℕ)
@@ -81,7 +82,8 @@ section_of word =
     if bytes_eq word (keyword_of (Tech Top)) then Some (Tech Top) else (
     if bytes_eq word (keyword_of (Tech Bottom)) then Some (Tech Bottom) else (
     if bytes_eq word (keyword_of TerminalSize) then Some TerminalSize else (
-    if bytes_eq word (keyword_of TerminalSpacing) then Some TerminalSpacing else None))))))))
+    if bytes_eq word (keyword_of TerminalSpacing) then Some TerminalSpacing else (
+    if bytes_eq word (keyword_of TerminalCost) then Some TerminalCost else None)))))))))
 
 -- the sections that were read, and what they said
 
@@ -89,7 +91,7 @@ abbrev pub no_die : DieFound
 no_die = record { percent = None; rows = None; tech = None }
 
 abbrev pub none_found : Found
-none_found = record { frame = None; top = no_die; bottom = no_die; size = None; spacing = None }
+none_found = record { frame = None; top = no_die; bottom = no_die; size = None; spacing = None; cost = None }
 
 abbrev pub die_found : Found → Die → DieFound
 die_found found Top = found.top
@@ -107,11 +109,12 @@ has_section found (Rows die) = is_some (die_found found die).rows
 has_section found (Tech die) = is_some (die_found found die).tech
 has_section found TerminalSize = is_some found.size
 has_section found TerminalSpacing = is_some found.spacing
+has_section found TerminalCost = is_some found.cost
 
--- which of the nine were read, in the usual order, and how many
+-- which of the ten were read, in the usual order with the cost behind the nine, and how many
 abbrev pub bits : Found → List Bool
 bits found = is_some found.frame ∷ is_some found.top.percent ∷ is_some found.bottom.percent ∷ is_some found.top.rows ∷ is_some found.bottom.rows
-    ∷ is_some found.top.tech ∷ is_some found.bottom.tech ∷ is_some found.size ∷ is_some found.spacing ∷ []
+    ∷ is_some found.top.tech ∷ is_some found.bottom.tech ∷ is_some found.size ∷ is_some found.spacing ∷ is_some found.cost ∷ []
 
 unfoldable pub count_true : List Bool → ℕ
 count_true [] = 0
@@ -167,6 +170,9 @@ fields_next names TerminalSize at found l = do
 fields_next names TerminalSpacing at found l = do
   spacing ← number_next 0 most_number kinds.Range l
   Ok (record found { spacing = Some spacing.0 }, spacing.1)
+fields_next names TerminalCost at found l = do
+  cost ← number_next 0 most_number kinds.Range l
+  Ok (record found { cost = Some cost.0 }, cost.1)
 
 -- a keyword that begins a section which was not read before
 abbrev pub new_section : Option Section → ℕ → Found → Result Section Fault
@@ -179,12 +185,27 @@ section_next names found l = do
   section ← new_section (section_of word.0.text) word.0.at found
   fields_next names section word.0.at found word.1
 
--- so many sections
+-- all nine sections were read
+abbrev pub has_nine_die : DieFound → Bool
+has_nine_die die = is_some die.percent && (is_some die.rows && is_some die.tech)
+
+abbrev pub has_nine : Found → Bool
+has_nine found = is_some found.frame && (has_nine_die found.top && (has_nine_die found.bottom && (is_some found.size && is_some found.spacing)))
+
+-- sections until the nine were read, in so many turns; each turn reads another of the ten, so ten turns are enough
 unfoldable pub sections_next : List (List ℕ) → ℕ → Found → Left → Read Found
 sections_next names zero found l = Ok (found, l)
-sections_next names (suc n) found l = do
-  more ← section_next names found l
-  sections_next names n more.0 more.1
+sections_next names (suc turns) found l = if has_nine found then Ok (found, l) else (section_next names found l >>= (λ more. sections_next names turns more.0 more.1))
+
+-- behind the nine: the cost of a terminal, where the next token begins it
+unfoldable pub may_cost_next : List (List ℕ) → Found → Left → Read Found
+may_cost_next names found l = if begins (keyword_of TerminalCost) l then section_next names found l else Ok (found, l)
+
+-- asked twice, since a second cost is `Twice`
+unfoldable pub cost_next : List (List ℕ) → Found → Left → Read Found
+cost_next names found l = do
+  first ← may_cost_next names found l
+  may_cost_next names first.0 first.1
 
 -- what the sections say together; once all nine are read, no default stands in it
 abbrev pub no_rows : RowsFound
@@ -212,23 +233,68 @@ setup_of found = record {
   frame = unwrap_or found.frame no_frame;
   top = die_spec found.top;
   bottom = die_spec found.bottom;
-  terminal = record { size_x = (unwrap_or found.size (0, 0)).0; size_y = (unwrap_or found.size (0, 0)).1; spacing = unwrap_or found.spacing 0 };
+  terminal = record { size_x = (unwrap_or found.size (0, 0)).0; size_y = (unwrap_or found.size (0, 0)).1; spacing = unwrap_or found.spacing 0; cost = unwrap_or found.cost 0 };
 }
 
--- the setup where both dies' rows lie in the frame; else the first that does not, at its rows' keyword
-unfoldable pub setup_checked : Found → Left → Read Setup
-setup_checked found l =
+-- both dies' rows lie in the frame; else the first that do not are told, at their keyword
+unfoldable pub rows_checked : Found → Left → Read Found
+rows_checked found l =
     if rows_lie (setup_of found).frame (setup_of found).top
-    then (if rows_lie (setup_of found).frame (setup_of found).bottom then Ok (setup_of found, l) else fault (rows_of found.bottom).at kinds.Rows)
+    then (if rows_lie (setup_of found).frame (setup_of found).bottom then Ok (found, l) else fault (rows_of found.bottom).at kinds.Rows)
     else fault (rows_of found.top).at kinds.Rows
 
--- the technologies and the sections: a problem without instances and nets
+-- the nine sections, the test of the rows, which comes before the next token, and the cost behind the nine
+unfoldable pub all_sections_next : List (List ℕ) → Left → Read Found
+all_sections_next names l = do
+  nine ← sections_next names 10 none_found l
+  lying ← rows_checked nine.0 nine.1
+  cost_next names lying.0 lying.1
+
+-- the word `Top` or `Bottom`
+unfoldable pub die_next : Left → Read Die
+die_next l = do
+  word ← word_next l
+  if bytes_eq word.0.text (die_word Top) then Ok (Top, word.1)
+      else (if bytes_eq word.0.text (die_word Bottom) then Ok (Bottom, word.1) else fault word.0.at kinds.Word)
+
+abbrev pub block_of : Die → Frame → Block
+block_of die corners = record { die = die; llx = corners.llx; lly = corners.lly; urx = corners.urx; ury = corners.ury }
+
+-- `Blockage die llx lly urx ury`
+unfoldable pub block_next : Left → Read Block
+block_next l = do
+  keyword ← keyword_next (codes "Blockage") l
+  die ← die_next keyword.1
+  corners ← frame_next die.1
+  Ok (block_of die.0 corners.0, corners.1)
+
+-- `NumBlockages n` and n blockages, with the place of the keyword
+unfoldable pub listed_blocks_next : Left → Read (ℕ × List Block)
+listed_blocks_next l = do
+  keyword ← keyword_next (codes "NumBlockages") l
+  count ← number_next 0 1024 kinds.Limit keyword.1
+  blocks ← many_next (λ before. block_next) count.0 [] count.1
+  Ok ((keyword.0, blocks.0), blocks.1)
+
+-- the blockages, where the next token begins them, and none else
+unfoldable pub blocks_next : Left → Read (ℕ × List Block)
+blocks_next l = if begins (codes "NumBlockages") l then listed_blocks_next l else Ok ((0, []), l)
+
+-- a problem without instances and nets
+abbrev pub front_of : List TechText → Found → List Block → ProblemText
+front_of techs found blocks = record { techs = techs; setup = setup_of found; blocks = blocks; insts = []; nets = [] }
+
+-- neither die has more than 2^16 segments; else `Limit` at the keyword of the blockages, without which there are never so many
+unfoldable pub few_checked : ℕ → ProblemText → Left → Read ProblemText
+few_checked at text l = if has_few (plan_of text) Top && has_few (plan_of text) Bottom then Ok (text, l) else fault at kinds.Limit
+
+-- the technologies, the sections and the blockages: a problem without instances and nets
 unfoldable pub front_next : Left → Read ProblemText
 front_next l = do
   techs ← techs_next l
-  found ← sections_next (tech_name_list techs.0) 9 none_found techs.1
-  setup ← setup_checked found.0 found.1
-  Ok (record { techs = techs.0; setup = setup.0; insts = []; nets = [] }, setup.1)
+  found ← all_sections_next (tech_name_list techs.0) techs.1
+  blocks ← blocks_next found.1
+  few_checked blocks.0.0 (front_of techs.0 found.0 blocks.0.1) blocks.1
 
 -- the name of a library cell that the technologies of both dies have
 unfoldable pub lib_name_next : Plan → Left → Read (List ℕ)

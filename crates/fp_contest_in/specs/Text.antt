@@ -2,6 +2,7 @@
 use Rattle.std.specs.Prelude.{ℕ, List, [], ◌∷◌, length, map, sum_by}
 use Rattle.fp_contest_in.specs.declared.section.Setup.{Setup}
 use Rattle.fp_tech.specs.Book.{Pin, Book, no_techs, id_for, with_tech, with_lib, with_pin}
+use Rattle.fp_tech.specs.declared.dies.Block.{Block}
 use Rattle.fp_tech.specs.Plan.{Plan}
 use Rattle.fp_netlist.specs.Netlist.{Netlist, no_cells, with_inst, with_net, with_conn}
 
@@ -33,6 +34,7 @@ pub record NetText : Type 0 where
 pub record ProblemText : Type 0 where
   pub techs : List TechText
   pub setup : Setup
+  pub blocks : List Block
   pub insts : List InstText
   pub nets : List NetText
 
@@ -86,6 +88,7 @@ plan_of text = record {
   top = text.setup.top;
   bottom = text.setup.bottom;
   terminal = text.setup.terminal;
+  blocks = text.blocks;
 }
 
 -- a netlist with a cell added; its library cell's number is that of its name

@@ -1,12 +1,13 @@
-//! The nine sections between the technologies and the instances.
+//! The nine sections between the technologies and the instances, and the cost of a terminal that may stand among them.
 
 ghost use Rattle.std.specs.Prelude.{◌≡◌, IsTrue, Option, Some, None};
-ghost use Rattle.fp_contest_in.specs.Statements.{section_of, has_section, die_found, set_die, die_spec, setup_of};
+ghost use Rattle.fp_contest_in.specs.Statements.{section_of, has_section, die_found, set_die, has_nine_die, has_nine, die_spec, setup_of};
 
 use fp_base::{Die, TechId};
 use fp_tech::{DieSpec, Frame, TermSpec};
 
-/// One of the nine sections, which an input has once each, in any order.
+/// One of the nine sections, which an input has once each, in any order; or the cost of a terminal, our own addition,
+/// which it may have once among them or behind.
 #[derive(Clone, Copy, Debug, PartialEq, Eq)]
 pub enum Section {
     DieSize,
@@ -15,6 +16,7 @@ pub enum Section {
     Tech(Die),
     TerminalSize,
     TerminalSpacing,
+    TerminalCost,
 }
 
 /// A die's rows, and the place of their keyword.
@@ -56,6 +58,13 @@ impl DieFound {
         }
     }
 
+    /// Whether its three sections were read.
+    fn is_whole(&self) -> bool
+        ensures { result ≡ has_nine_die self.now }
+    {
+        self.percent.is_some() && self.rows.is_some() && self.tech.is_some()
+    }
+
     /// No section was read.
     pub const NONE: DieFound = DieFound {
         percent: None,
@@ -72,9 +81,10 @@ pub struct Found {
     pub bottom: DieFound,
     pub size: Option<(u32, u32)>,
     pub spacing: Option<u32>,
+    pub cost: Option<u32>,
 }
 
-/// What the nine sections say together. A die's technology is given by its number in file order.
+/// What the sections say together; without a cost it is 0. A die's technology is given by its number in file order.
 #[derive(Clone, Copy, Debug, PartialEq, Eq)]
 pub struct Setup {
     pub frame: Frame,
@@ -106,6 +116,8 @@ pub fn section_of(word: &[u8]) -> Option<Section>
         Some(Section::TerminalSize)
     } else if word == b"TerminalSpacing".as_slice() {
         Some(Section::TerminalSpacing)
+    } else if word == b"TerminalCost".as_slice() {
+        Some(Section::TerminalCost)
     } else {
         None
     }
@@ -121,6 +133,7 @@ impl Found {
         bottom: DieFound::NONE,
         size: None,
         spacing: None,
+        cost: None,
     };
 
     /// What the sections of a die that were read said.
@@ -190,7 +203,19 @@ impl Found {
             Section::Tech(die) => self.die(die).tech.is_some(),
             Section::TerminalSize => self.size.is_some(),
             Section::TerminalSpacing => self.spacing.is_some(),
+            Section::TerminalCost => self.cost.is_some(),
         }
+    }
+
+    /// Whether all nine sections were read.
+    pub fn has_nine(&self) -> bool
+        ensures { result ≡ has_nine self.now }
+    {
+        self.frame.is_some()
+            && self.top.is_whole()
+            && self.bottom.is_whole()
+            && self.size.is_some()
+            && self.spacing.is_some()
     }
 
     /// The terminal, once its two sections were read.
@@ -203,6 +228,7 @@ impl Found {
             size_x,
             size_y,
             spacing: self.spacing.unwrap(),
+            cost: self.cost.unwrap_or(0),
         }
     }
 

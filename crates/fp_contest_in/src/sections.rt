@@ -1,23 +1,25 @@
 //! Reading the sections.
 
-ghost use Rattle.std.specs.Prelude.{◌≡◌, ◌≤◌, ◌<◌, ◌+◌, ◌^◌, IfOk, length};
-ghost use Rattle.fp_text.specs.Reading.{Gives, number_next};
+ghost use Rattle.std.specs.Prelude.{◌≡◌, ◌≤◌, ◌<◌, ◌+◌, ◌^◌, IfOk, IfSome, length};
+ghost use Rattle.fp_text.specs.Reading.{Left, Gives, number_next};
 ghost use Rattle.fp_tech.specs.Book.{tech_names};
 ghost use Rattle.fp_tech.specs.Plan.{IsFrame};
-ghost use Rattle.fp_contest_in.specs.Statements.{frame_next, sizes_next, rows_next, tech_name_next, fields_next, section_next, sections_next, none_found};
-ghost use Rattle.fp_contest_in.specs.Ranges.{AreRows, AreInRange, IsComplete};
+ghost use Rattle.fp_contest_in.specs.Statements.{frame_next, sizes_next, rows_next, tech_name_next, fields_next, section_next, sections_next, rows_checked, may_cost_next, cost_next, all_sections_next, none_found};
+ghost use Rattle.fp_contest_in.specs.Ranges.{AreRows, AreInRange, IsComplete, HasRowsInFrame};
+ghost use Rattle.fp_contest_in.specs.Given.{GivesRows};
 
 use crate::section::{Found, RowsFound, Section, section_of};
 use crate::steps::{GREATEST, number, sizes, wrong};
 use fp_base::TechId;
-use fp_tech::{Frame, TechBook};
+use fp_tech::{Frame, TechBook, rows_lie};
 use fp_text::{Kind, TextFault, Tokens};
 
-/// The number of sections.
-const SECTIONS: u32 = 9;
+/// The number of sections, with the cost of a terminal.
+const SECTIONS: u32 = 10;
 
+/// Two corners: the upper right one above and to the right of the lower left one.
 #[tactic(auto, unfolding(crate::specs::Statements::frame_next))]
-fn frame(tokens: &mut Tokens<'_>) -> Result<Frame, TextFault>
+pub fn frame(tokens: &mut Tokens<'_>) -> Result<Frame, TextFault>
     ensures gives { Gives (λ f. f) result tokens.new (frame_next tokens.old) }
     ensures range { IfOk result IsFrame }
 {
@@ -98,6 +100,10 @@ fn fields(
             let spacing = Some(number(tokens, 0, GREATEST, Kind::Range)?);
             Ok(Found { spacing, ..found })
         }
+        Section::TerminalCost => {
+            let cost = Some(number(tokens, 0, GREATEST, Kind::Range)?);
+            Ok(Found { cost, ..found })
+        }
     }
 }
 
@@ -116,15 +122,79 @@ fn next_section(book: &TechBook, found: Found, tokens: &mut Tokens<'_>) -> Resul
     fields(book, section, word.at, found, tokens)
 }
 
-/// The nine sections, in any order.
-pub fn sections(book: &TechBook, tokens: &mut Tokens<'_>) -> Result<Found, TextFault>
-    ensures gives { Gives (λ f. f) result tokens.new (sections_next (tech_names book.now) 9 none_found tokens.old) }
+/// The nine sections, in any order, with the cost of a terminal where it stands among them.
+fn nine_sections(book: &TechBook, tokens: &mut Tokens<'_>) -> Result<Found, TextFault>
+    ensures gives { Gives (λ f. f) result tokens.new (sections_next (tech_names book.now) 10 none_found tokens.old) }
     ensures range { IfOk result (AreInRange (length book.now.techs)) }
     ensures complete { IfOk result IsComplete }
 {
     let mut found = Found::NONE;
     for _ in 0..SECTIONS {
+        if found.has_nine() {
+            break;
+        }
         found = next_section(book, found, tokens)?;
     }
     Ok(found)
+}
+
+/// Whether the rows lie in the frame; else `Rows` at the keyword of the first die's rows that do not.
+#[tactic(auto, unfolding(crate::specs::Statements::rows_checked))]
+fn check_rows(found: Found) -> Result<(), TextFault>
+    requires complete { IsComplete found }
+    requires top { IfSome found.top.rows AreRows }
+    requires bottom { IfSome found.bottom.rows AreRows }
+    ensures { (left : Left) → GivesRows found result left (rows_checked found left) }
+{
+    let setup = found.setup();
+    if !rows_lie(setup.frame, setup.top) {
+        Err(wrong(found.top.rows.unwrap().at, Kind::Rows))
+    } else if !rows_lie(setup.frame, setup.bottom) {
+        Err(wrong(found.bottom.rows.unwrap().at, Kind::Rows))
+    } else {
+        Ok(())
+    }
+}
+
+/// The cost of a terminal, where the next token begins it.
+#[tactic(auto, unfolding(crate::specs::Statements::may_cost_next))]
+fn may_cost(book: &TechBook, found: Found, tokens: &mut Tokens<'_>) -> Result<Found, TextFault>
+    requires complete { IsComplete found }
+    requires range { AreInRange (length book.now.techs) found }
+    ensures gives { Gives (λ f. f) result tokens.new (may_cost_next (tech_names book.now) found tokens.old) }
+    ensures range { IfOk result (AreInRange (length book.now.techs)) }
+    ensures complete { IfOk result IsComplete }
+{
+    if tokens.begins(b"TerminalCost") {
+        next_section(book, found, tokens)
+    } else {
+        Ok(found)
+    }
+}
+
+/// The cost of a terminal behind the nine sections, where there is one; `Twice` where it was told before.
+#[tactic(auto, unfolding(crate::specs::Statements::cost_next))]
+fn cost(book: &TechBook, found: Found, tokens: &mut Tokens<'_>) -> Result<Found, TextFault>
+    requires complete { IsComplete found }
+    requires range { AreInRange (length book.now.techs) found }
+    ensures gives { Gives (λ f. f) result tokens.new (cost_next (tech_names book.now) found tokens.old) }
+    ensures range { IfOk result (AreInRange (length book.now.techs)) }
+    ensures complete { IfOk result IsComplete }
+{
+    let first = may_cost(book, found, tokens)?;
+    may_cost(book, first, tokens)
+}
+
+/// The nine sections in any order, and the cost of a terminal once at most among them or behind. The rows are tested right
+/// behind the ninth, before the next token.
+#[tactic(auto, unfolding(crate::specs::Statements::all_sections_next))]
+pub fn sections(book: &TechBook, tokens: &mut Tokens<'_>) -> Result<Found, TextFault>
+    ensures gives { Gives (λ f. f) result tokens.new (all_sections_next (tech_names book.now) tokens.old) }
+    ensures range { IfOk result (AreInRange (length book.now.techs)) }
+    ensures complete { IfOk result IsComplete }
+    ensures lie { IfOk result HasRowsInFrame }
+{
+    let found = nine_sections(book, tokens)?;
+    check_rows(found)?;
+    cost(book, found, tokens)
 }

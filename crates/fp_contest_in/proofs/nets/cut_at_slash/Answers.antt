@@ -1,6 +1,6 @@
 use Rattle.std.proofs.Common.{rules, refl}
 use Rattle.std.proofs.lemmas.List.{take_rest}
-use Rattle.fp_contest_in.proofs.Paths.{cut_none, cut_at}
+use Rattle.fp_contest_in.specs.PathsLaws.{cut_none, cut_at}
 use Rattle.fp_contest_in.proofs.nets.cut_at_slash.Goals as goal
 
 pub returns-in_err-slash : goal.returns-in_err-slash

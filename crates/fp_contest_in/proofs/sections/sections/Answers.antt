@@ -1,37 +1,8 @@
-use Rattle.std.proofs.Common.{length}
-use Rattle.std.proofs.lemmas.Result.{err_from_is_err_and}
 use Rattle.fp_tech.specs.Book.{tech_names}
-use Rattle.fp_contest_in.specs.Statements.{sections_next, none_found}
-use Rattle.fp_contest_in.proofs.SectionLoop.{sections_none, sections_more, sections_fault, sections_all, sections_complete}
+use Rattle.fp_contest_in.specs.KeptLaws.{still_lie}
 use Rattle.fp_contest_in.proofs.sections.sections.Goals as goal
 
-pub loop-init : goal.loop-init
-loop-init c = sections_none (length c.args.book.now.techs) (tech_names c.args.book.now) c.args.tokens.now
-
-pub next_section-requires : goal.next_section-requires
-next_section-requires c = c.loop.invariant.range
-
-pub loop-preserved : goal.loop-preserved
-loop-preserved c =
-    sections_more (length c.args.book.now.techs) (tech_names c.args.book.now) c.loop.counter c.loop.found c.in_ok-found.found c.loop.tokens c.next_section.new.tokens
-    (sections_next (tech_names c.args.book.now) 9 none_found c.args.tokens.now) c.loop-test.true c.in_ok-found.ensures.gives c.in_ok-found.ensures.range c.loop.invariant
-
-pub returns-in_err-found-clause-gives : goal.returns-in_err-found-clause-gives
-returns-in_err-found-clause-gives c =
-    let p = err_from_is_err_and c.from_residual.result c.from_residual.ensures.1 in
-    rw (p.1, p.2) (sections_fault c.in_err-found.field-0.0 (length c.args.book.now.techs) (tech_names c.args.book.now) c.loop.counter c.loop.found c.loop.tokens
-    (sections_next (tech_names c.args.book.now) 9 none_found c.args.tokens.now) c.loop-test.true c.in_err-found.ensures.gives c.loop.invariant)
-
-pub returns-clause-gives : goal.returns-clause-gives
-returns-clause-gives c =
-    sections_all (length c.args.book.now.techs) (tech_names c.args.book.now) c.loop.counter c.loop.found c.loop.tokens
-    (sections_next (tech_names c.args.book.now) 9 none_found c.args.tokens.now) c.loop-test.false c.loop.invariant
-
-pub returns-clause-range : goal.returns-clause-range
-returns-clause-range c = c.loop.invariant.range
-
-pub returns-clause-complete : goal.returns-clause-complete
-returns-clause-complete c =
-    sections_complete (tech_names c.args.book.now) c.loop.found c.args.tokens.now c.loop.tokens
-    (sections_all (length c.args.book.now.techs) (tech_names c.args.book.now) c.loop.counter c.loop.found c.loop.tokens
-    (sections_next (tech_names c.args.book.now) 9 none_found c.args.tokens.now) c.loop-test.false c.loop.invariant)
+pub returns-clause-lie : goal.returns-clause-lie
+returns-clause-lie c =
+    still_lie (tech_names c.args.book.now) c.cost.result c.in_ok-found.found c.nine_sections.new.tokens c.cost.new.tokens c.in_ok-found.ensures.complete
+    (c.in_ok-check_rows.ensures c.nine_sections.new.tokens) c.cost.ensures.gives

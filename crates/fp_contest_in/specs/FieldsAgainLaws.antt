@@ -1,5 +1,5 @@
 -- What a section's fields say is read, beside what was read before.
-use Rattle.std.proofs.Common.{◌≡◌, ℕ, ◌^◌, ◌≤◌, true, List, [], ◌∷◌, Option, Some, None, Ok, refl, ap, ◌∙◌, arith}
+use Rattle.std.proofs.Common.{◌≡◌, ℕ, ◌^◌, ◌≤◌, true, false, List, [], ◌∷◌, Option, Some, None, Ok, refl, sym, ap, ◌∙◌, arith}
 use Rattle.std.specs.Prelude.{is_some, unwrap_or}
 use Rattle.fp_base.specs.declared.ids.Die.TheVariants.{Top, Bottom}
 use Rattle.fp_text.specs.Words.{Word}
@@ -8,7 +8,7 @@ use Rattle.fp_text.specs.ReadingLaws.{left_of}
 use Rattle.fp_text.specs.declared.fault.Kind.{Kind}
 use Rattle.fp_text.specs.declared.fault.Kind.TheVariants as kinds
 use Rattle.fp_contest_in.specs.declared.section.Section.{Section}
-use Rattle.fp_contest_in.specs.declared.section.Section.TheVariants.{DieSize, MaxUtil, Rows, Tech, TerminalSize, TerminalSpacing}
+use Rattle.fp_contest_in.specs.declared.section.Section.TheVariants.{DieSize, MaxUtil, Rows, Tech, TerminalSize, TerminalSpacing, TerminalCost}
 use Rattle.fp_contest_in.specs.declared.section.RowsFound.{RowsFound}
 use Rattle.fp_contest_in.specs.declared.section.DieFound.{DieFound}
 use Rattle.fp_contest_in.specs.declared.section.Found.{Found}
@@ -16,13 +16,13 @@ use Rattle.fp_contest_in.specs.declared.section.Setup.{Setup}
 use Rattle.fp_contest_in.specs.Text.{TechText, tech_name_list}
 use Rattle.fp_contest_in.specs.Grammar.{Numbers, ranged, most_number, HasFields, section_number}
 use Rattle.fp_contest_in.specs.Statements.{fields_next, set_die, has_section, bits, setup_of, no_frame, no_rows}
-use Rattle.fp_contest_in.proofs.Taken.{number_again}
-use Rattle.fp_contest_in.proofs.TechsAgree.{sizes_again}
-use Rattle.fp_contest_in.proofs.Bits.{with_bit}
-use Rattle.fp_contest_in.proofs.Names.{AreNew}
+use Rattle.fp_contest_in.specs.TakenLaws.{number_again}
+use Rattle.fp_contest_in.specs.TechsLaws.{sizes_again}
+use Rattle.fp_contest_in.specs.BitsLaws.{with_bit, HasNeeded}
+use Rattle.fp_contest_in.specs.NamesLaws.{AreNew}
 use Rattle.fp_contest_in.specs.Statements.{die_spec}
 use Rattle.fp_tech.specs.declared.dies.DieSpec.{DieSpec}
-use Rattle.fp_contest_in.proofs.Fields.{rows_at, frame_again, rows_again, tech_again}
+use Rattle.fp_contest_in.specs.FieldsLaws.{rows_at, frame_again, rows_again, tech_again}
 
 -- a fact of a value, if there is one
 abbrev pub Agreed : {A : Type 0} → Option A → (A → Type 0) → Type 0
@@ -52,6 +52,7 @@ pub record Agrees (setup : Setup) (f : Found) : Type 0 where
   pub bottom_tech : Agreed f.bottom.tech (λ tech. tech ≡ setup.bottom.tech)
   pub size : Agreed f.size (λ size. size ≡ (setup.terminal.size_x, setup.terminal.size_y))
   pub spacing : Agreed f.spacing (λ n. n ≡ setup.terminal.spacing)
+  pub cost : Agreed f.cost (λ n. n ≡ setup.terminal.cost)
 
 spec_is : (spec : DieSpec) (die : DieFound) → is_some die.percent ≡ true → is_some die.rows ≡ true → is_some die.tech ≡ true
     → Agreed die.percent (λ n. n ≡ spec.percent) → Agreed die.rows (SameRows spec) → Agreed die.tech (λ tech. tech ≡ spec.tech) → die_spec die ≡ spec
@@ -69,15 +70,37 @@ spec_is spec die a b c p r t =
       repeat = rows.many i;
     }
 
--- once all nine are read, they are the setup
-pub setup_is : (setup : Setup) (f : Found) → ((section : Section) → has_section f section ≡ true) → Agrees setup f → setup_of f ≡ setup
-setup_is setup f all a =
-    let frame = agreed_at f.frame no_frame (λ frame. frame ≡ setup.frame) (all DieSize) a.frame in
-    let top = spec_is setup.top f.top (all (MaxUtil Top)) (all (Rows Top)) (all (Tech Top)) a.top_percent a.top_rows a.top_tech in
-    let bottom = spec_is setup.bottom f.bottom (all (MaxUtil Bottom)) (all (Rows Bottom)) (all (Tech Bottom)) a.bottom_percent a.bottom_rows a.bottom_tech in
-    let size = agreed_at f.size (0, 0) (λ size. size ≡ (setup.terminal.size_x, setup.terminal.size_y)) (all TerminalSize) a.size in
-    let spacing = agreed_at f.spacing 0 (λ n. n ≡ setup.terminal.spacing) (all TerminalSpacing) a.spacing in
-    λ i. record { frame = frame i; top = top i; bottom = bottom i; terminal = record { size_x = (size i).0; size_y = (size i).1; spacing = spacing i } }
+-- once the nine are read, the frame and both dies are the setup's
+pub record SameDies (setup : Setup) (f : Found) : Type 0 where
+  pub frame : (setup_of f).frame ≡ setup.frame
+  pub top : (setup_of f).top ≡ setup.top
+  pub bottom : (setup_of f).bottom ≡ setup.bottom
+
+pub dies_are : (setup : Setup) (f : Found) → HasNeeded f → Agrees setup f → SameDies setup f
+dies_are setup f all a = record {
+  frame = agreed_at f.frame no_frame (λ frame. frame ≡ setup.frame) (all DieSize refl) a.frame;
+  top = spec_is setup.top f.top (all (MaxUtil Top) refl) (all (Rows Top) refl) (all (Tech Top) refl) a.top_percent a.top_rows a.top_tech;
+  bottom = spec_is setup.bottom f.bottom (all (MaxUtil Bottom) refl) (all (Rows Bottom) refl) (all (Tech Bottom) refl) a.bottom_percent a.bottom_rows a.bottom_tech;
+}
+
+-- a cost that was not told is 0
+cost_is : (o : Option ℕ) (cost : ℕ) → Agreed o (λ n. n ≡ cost) → (is_some o ≡ false → cost ≡ 0) → unwrap_or o 0 ≡ cost
+cost_is None cost a none = sym (none refl)
+cost_is (Some n) cost a none = a
+
+-- once the nine are read, and the cost where it is told, they are the setup
+pub setup_is : (setup : Setup) (f : Found) → HasNeeded f → (has_section f TerminalCost ≡ false → setup.terminal.cost ≡ 0) → Agrees setup f → setup_of f ≡ setup
+setup_is setup f all no_cost a =
+    let dies = dies_are setup f all a in
+    let size = agreed_at f.size (0, 0) (λ size. size ≡ (setup.terminal.size_x, setup.terminal.size_y)) (all TerminalSize refl) a.size in
+    let spacing = agreed_at f.spacing 0 (λ n. n ≡ setup.terminal.spacing) (all TerminalSpacing refl) a.spacing in
+    let cost = cost_is f.cost setup.terminal.cost a.cost no_cost in
+    λ i. record {
+      frame = dies.frame i;
+      top = dies.top i;
+      bottom = dies.bottom i;
+      terminal = record { size_x = (size i).0; size_y = (size i).1; spacing = spacing i; cost = cost i };
+    }
 
 -- the rows that a die has
 abbrev rows_in : DieSpec → RowsFound
@@ -111,6 +134,7 @@ fields_again techs setup DieSize at found l rest new a says = record {
     bottom_tech = a.bottom_tech;
     size = a.size;
     spacing = a.spacing;
+    cost = a.cost;
   };
 }
 fields_again techs setup (MaxUtil Top) at found l rest new a says = record {
@@ -127,6 +151,7 @@ fields_again techs setup (MaxUtil Top) at found l rest new a says = record {
     bottom_tech = a.bottom_tech;
     size = a.size;
     spacing = a.spacing;
+    cost = a.cost;
   };
 }
 fields_again techs setup (Rows Top) at found l rest new a says = record {
@@ -143,6 +168,7 @@ fields_again techs setup (Rows Top) at found l rest new a says = record {
     bottom_tech = a.bottom_tech;
     size = a.size;
     spacing = a.spacing;
+    cost = a.cost;
   };
 }
 fields_again techs setup (Tech Top) at found l rest new a says = record {
@@ -159,6 +185,7 @@ fields_again techs setup (Tech Top) at found l rest new a says = record {
     bottom_tech = a.bottom_tech;
     size = a.size;
     spacing = a.spacing;
+    cost = a.cost;
   };
 }
 fields_again techs setup (MaxUtil Bottom) at found l rest new a says = record {
@@ -175,6 +202,7 @@ fields_again techs setup (MaxUtil Bottom) at found l rest new a says = record {
     bottom_tech = a.bottom_tech;
     size = a.size;
     spacing = a.spacing;
+    cost = a.cost;
   };
 }
 fields_again techs setup (Rows Bottom) at found l rest new a says = record {
@@ -191,6 +219,7 @@ fields_again techs setup (Rows Bottom) at found l rest new a says = record {
     bottom_tech = a.bottom_tech;
     size = a.size;
     spacing = a.spacing;
+    cost = a.cost;
   };
 }
 fields_again techs setup (Tech Bottom) at found l rest new a says = record {
@@ -207,6 +236,7 @@ fields_again techs setup (Tech Bottom) at found l rest new a says = record {
     bottom_tech = refl;
     size = a.size;
     spacing = a.spacing;
+    cost = a.cost;
   };
 }
 fields_again techs setup TerminalSize at found l rest new a says = record {
@@ -223,6 +253,7 @@ fields_again techs setup TerminalSize at found l rest new a says = record {
     bottom_tech = a.bottom_tech;
     size = refl;
     spacing = a.spacing;
+    cost = a.cost;
   };
 }
 fields_again techs setup TerminalSpacing at found l rest new a says = record {
@@ -239,5 +270,23 @@ fields_again techs setup TerminalSpacing at found l rest new a says = record {
     bottom_tech = a.bottom_tech;
     size = a.size;
     spacing = refl;
+    cost = a.cost;
+  };
+}
+fields_again techs setup TerminalCost at found l rest new a says = record {
+  found_then = record found { cost = Some setup.terminal.cost };
+  read = rw (one_again 0 most_number kinds.Range l setup.terminal.cost rest says (omega arith)) refl;
+  set = refl;
+  agrees = record {
+    frame = a.frame;
+    top_percent = a.top_percent;
+    bottom_percent = a.bottom_percent;
+    top_rows = a.top_rows;
+    bottom_rows = a.bottom_rows;
+    top_tech = a.top_tech;
+    bottom_tech = a.bottom_tech;
+    size = a.size;
+    spacing = a.spacing;
+    cost = refl;
   };
 }

@@ -4,14 +4,15 @@ use Rattle.std.specs.Prelude.{codes}
 use Rattle.fp_text.specs.Words.{Word}
 use Rattle.fp_text.specs.Numbers.{Spells}
 use Rattle.fp_text.specs.Reading.{Left, Read, keyword_next, name_next, number_next, many_next}
-use Rattle.fp_text.specs.ReadingLaws.{left_of, bind_ok, cond_not, ok_is, Each, many_ok, many_again}
+use Rattle.fp_text.specs.Items.{Each}
+use Rattle.fp_text.specs.ReadingLaws.{left_of, bind_ok, cond_not, ok_is, many_ok, many_again}
 use Rattle.fp_text.specs.declared.fault.Kind.TheVariants as kinds
 use Rattle.fp_tech.specs.Book.{Pin, is_among}
 use Rattle.fp_contest_in.specs.Text.{LibText, TechText, pin_name_list, lib_name_list, tech_name_list}
 use Rattle.fp_contest_in.specs.Grammar.{Named, Numbers, IsNewPin, IsNewLib, IsNewTech, ranged, most_number, AreTechs}
 use Rattle.fp_contest_in.specs.Statements.{new_name_next, pin_next, sizes_next, lib_next, tech_next, techs_next}
 use Rattle.fp_contest_in.specs.Growing.{pin_item, lib_item, tech_item}
-use Rattle.fp_contest_in.proofs.Taken.{keyword_ok, keyword_again, name_ok, name_again, number_ok, number_again, count_is, spells_as}
+use Rattle.fp_contest_in.specs.TakenLaws.{keyword_ok, keyword_again, name_ok, name_again, number_ok, number_again, count_is, spells_as}
 
 -- an item that was read stands in the words, and one that stands there is read
 abbrev pub ItemOk : {A : Type 0} → (List A → A → List Word → List Word → Type 0) → (List A → Left → Read A) → Type 0

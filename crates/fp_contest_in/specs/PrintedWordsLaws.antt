@@ -1,12 +1,14 @@
 -- The words of what is printed.
-use Rattle.std.proofs.Common.{◌≡◌, ℕ, ◌+◌, ◌^◌, ◌≤◌, true, List, [], ◌∷◌, ◌++◌, length, map, flat_map, refl, sym, ap, subst, ◌∙◌, append_assoc, arith}
+use Rattle.std.proofs.Common.{◌≡◌, ℕ, zero, suc, ◌<◌, slice_get, Some, ◌+◌, ◌^◌, ◌≤◌, true, List, [], ◌∷◌, ◌++◌, length, map, flat_map, refl, sym, ap, subst, ◌∙◌, append_assoc, arith}
 use Rattle.fp_text.specs.Words.{Word, words_from}
 use Rattle.fp_text.specs.WordsLaws.{Breaks, words-blank, words-solid}
 use Rattle.fp_text.specs.Numbers.{is_name, Spells}
 use Rattle.fp_text.specs.NumbersLaws.{IsSolid, is_solid, solid-tested, name-solid, decimal-solid, decimal-spells}
-use Rattle.fp_text.specs.ReadingLaws.{Each}
+use Rattle.fp_text.specs.Items.{Each}
+use Rattle.fp_tech.specs.Book.{name_at}
 use Rattle.fp_contest_in.specs.Grammar.{Ranged, Keyword, Named, Numbers}
 use Rattle.fp_contest_in.specs.PrintedText.{spaced, line, numbers}
+use Rattle.fp_contest_in.specs.Printable.{EachIs}
 
 -- wherever the piece stands, its words say this
 pub record Says (stands : List Word → List Word → Type 0) (piece : List ℕ) : Type 0 where
@@ -26,12 +28,32 @@ pub says_so : {old new : List Word → List Word → Type 0} {a : List ℕ} → 
 says_so one change = record { said = λ more at. let is = one.said more at in (is.0, change _ _ is.1) }
 
 -- items one after the other
-pub each_says : {A : Type 0} (stands : List A → A → List Word → List Word → Type 0) (lines : A → List ℕ)
-    → ((before : List A) (x : A) (words rest : List Word) → stands before x words rest → Says (stands before x) (lines x))
-    → (before xs : List A) (words rest : List Word) → Each stands before xs words rest → Says (Each stands before xs) (flat_map lines xs)
-each_says stands lines one before [] words rest each = record { said = λ more at. (at, refl) }
-each_says stands lines one before (x ∷ xs) words rest each =
-    then_says (one before x words each.0 each.1) (each_says stands lines one (before ++ x ∷ []) xs each.0 rest each.2) (λ u v w first others. (v, first, others))
+pub each_says : {A : Type 0} (is : List A → A → Type 0) (stands : List A → A → List Word → List Word → Type 0) (lines : A → List ℕ)
+    → ((before : List A) (x : A) → is before x → Says (stands before x) (lines x))
+    → (before xs : List A) → EachIs is before xs → Says (Each stands before xs) (flat_map lines xs)
+each_says is stands lines one before [] each = record { said = λ more at. (at, refl) }
+each_says is stands lines one before (x ∷ xs) each =
+    then_says (one before x each.0) (each_says is stands lines one (before ++ x ∷ []) xs each.1) (λ u v w first others. (v, first, others))
+
+-- what stands in words passes, item by item
+pub each_is : {A : Type 0} (is : List A → A → Type 0) (stands : List A → A → List Word → List Word → Type 0)
+    → ((before : List A) (x : A) (words rest : List Word) → stands before x words rest → is before x)
+    → (before xs : List A) (words rest : List Word) → Each stands before xs words rest → EachIs is before xs
+each_is is stands one before [] words rest each = tt
+each_is is stands one before (x ∷ xs) words rest each = (one before x words each.0 each.1, each_is is stands one (before ++ x ∷ []) xs each.0 rest each.2)
+
+-- an item at a place, and its name there
+pub named_at : {A : Type 0} (name_of : A → List ℕ) (xs : List A) (i : ℕ) → i < length xs → (x : A) × (slice_get xs i ≡ Some x) × (name_at (map name_of xs) i ≡ name_of x)
+named_at name_of [] i below = absurd (omega arith)
+named_at name_of (x ∷ xs) zero below = (x, refl, refl)
+named_at name_of (x ∷ xs) (suc i) below = named_at name_of xs i (omega arith)
+
+-- names of items, of which each is a name
+pub names_are : {A : Type 0} (is : List A → A → Type 0) (name_of : A → List ℕ) → ((before : List A) (x : A) → is before x → is_name (name_of x) ≡ true)
+    → (before xs : List A) → EachIs is before xs → (i : ℕ) → i < length xs → is_name (name_at (map name_of xs) i) ≡ true
+names_are is name_of one before [] each i below = absurd (omega arith)
+names_are is name_of one before (x ∷ xs) each zero below = one before x each.0
+names_are is name_of one before (x ∷ xs) each (suc i) below = names_are is name_of one (before ++ x ∷ []) xs each.1 i (omega arith)
 
 -- ---- a line
 
@@ -76,16 +98,8 @@ abbrev pub Fit : List Ranged → Type 0
 Fit [] = Unit {0}
 Fit (r ∷ rs) = (r.least ≤ r.value) × (r.value ≤ r.most) × (r.most ≤ 2 ^ 30) × Fit rs
 
-abbrev pub AreSmall : List Ranged → Type 0
-AreSmall [] = Unit {0}
-AreSmall (r ∷ rs) = (r.most ≤ 2 ^ 30) × AreSmall rs
-
 abbrev pub values : List Ranged → List ℕ
 values rs = map (λ r. r.value) rs
-
-pub fits : (rs : List Ranged) (words rest : List Word) → AreSmall rs → Numbers rs words rest → Fit rs
-fits [] words rest small are = tt
-fits (r ∷ rs) words rest small are = (are.3.at_least, are.3.at_most, small.0, fits rs are.1 rest small.1 are.4)
 
 pub numbers_solid : (rs : List Ranged) → Fit rs → AreSolid (numbers (values rs))
 numbers_solid [] fit = tt

@@ -11,16 +11,16 @@ use Rattle.fp_text.specs.declared.fault.Kind.TheVariants as kinds
 use Rattle.fp_tech.specs.declared.dies.Frame.{Frame}
 use Rattle.fp_tech.specs.Book.{place_of}
 use Rattle.fp_contest_in.specs.declared.section.Section.{Section}
-use Rattle.fp_contest_in.specs.declared.section.Section.TheVariants.{DieSize, MaxUtil, Rows, Tech, TerminalSize, TerminalSpacing}
+use Rattle.fp_contest_in.specs.declared.section.Section.TheVariants.{DieSize, MaxUtil, Rows, Tech, TerminalSize, TerminalSpacing, TerminalCost}
 use Rattle.fp_contest_in.specs.declared.section.RowsFound.{RowsFound}
 use Rattle.fp_contest_in.specs.declared.section.Found.{Found}
 use Rattle.fp_contest_in.specs.Text.{TechText, tech_name_list}
 use Rattle.fp_contest_in.specs.Grammar.{Named, Numbers, any_number, ranged, most_number, NamesTech, HasFields, section_number}
 use Rattle.fp_contest_in.specs.Statements.{frame_next, rows_next, known_tech, tech_name_next, sizes_next, fields_next, set_die, has_section, bits, setup_of}
-use Rattle.fp_contest_in.proofs.Taken.{name_ok, name_again, number_ok, number_again}
-use Rattle.fp_contest_in.proofs.TechsAgree.{sizes_ok, sizes_again}
-use Rattle.fp_contest_in.proofs.Bits.{with_bit}
-use Rattle.fp_contest_in.proofs.Names.{AreNew, place_is, place_again}
+use Rattle.fp_contest_in.specs.TakenLaws.{name_ok, name_again, number_ok, number_again}
+use Rattle.fp_contest_in.specs.TechsLaws.{sizes_ok, sizes_again}
+use Rattle.fp_contest_in.specs.BitsLaws.{with_bit}
+use Rattle.fp_contest_in.specs.NamesLaws.{AreNew, place_is, place_again}
 
 -- ---- the frame
 
@@ -170,6 +170,7 @@ pub record Keeps (a b : Found) : Type 0 where
   pub bottom_tech : Kept a.bottom.tech b.bottom.tech
   pub size : Kept a.size b.size
   pub spacing : Kept a.spacing b.spacing
+  pub cost : Kept a.cost b.cost
 
 pub keeps_refl : (a : Found) → Keeps a a
 keeps_refl a = record {
@@ -182,6 +183,7 @@ keeps_refl a = record {
   bottom_tech = kept_refl a.bottom.tech;
   size = kept_refl a.size;
   spacing = kept_refl a.spacing;
+  cost = kept_refl a.cost;
 }
 
 pub keeps_then : (a b c : Found) → Keeps a b → Keeps b c → Keeps a c
@@ -195,6 +197,7 @@ keeps_then a b c p q = record {
   bottom_tech = kept_then a.bottom.tech b.bottom.tech c.bottom.tech p.bottom_tech q.bottom_tech;
   size = kept_then a.size b.size c.size p.size q.size;
   spacing = kept_then a.spacing b.spacing c.spacing p.spacing q.spacing;
+  cost = kept_then a.cost b.cost c.cost p.cost q.cost;
 }
 
 -- ---- one section
@@ -231,6 +234,7 @@ fields_ok techs DieSize at found l f r new e =
         bottom_tech = kept_refl found.bottom.tech;
         size = kept_refl found.size;
         spacing = kept_refl found.spacing;
+        cost = kept_refl found.cost;
       };
       says = taken.0;
       same = taken.1;
@@ -251,6 +255,7 @@ fields_ok techs (MaxUtil Top) at found l f r new e =
         bottom_tech = kept_refl found.bottom.tech;
         size = kept_refl found.size;
         spacing = kept_refl found.spacing;
+        cost = kept_refl found.cost;
       };
       says = taken.0;
       same = taken.1;
@@ -271,6 +276,7 @@ fields_ok techs (Rows Top) at found l f r new e =
         bottom_tech = kept_refl found.bottom.tech;
         size = kept_refl found.size;
         spacing = kept_refl found.spacing;
+        cost = kept_refl found.cost;
       };
       says = taken.0;
       same = taken.1;
@@ -291,6 +297,7 @@ fields_ok techs (Tech Top) at found l f r new e =
         bottom_tech = kept_refl found.bottom.tech;
         size = kept_refl found.size;
         spacing = kept_refl found.spacing;
+        cost = kept_refl found.cost;
       };
       says = taken.0;
       same = taken.1;
@@ -311,6 +318,7 @@ fields_ok techs (MaxUtil Bottom) at found l f r new e =
         bottom_tech = kept_refl found.bottom.tech;
         size = kept_refl found.size;
         spacing = kept_refl found.spacing;
+        cost = kept_refl found.cost;
       };
       says = taken.0;
       same = taken.1;
@@ -331,6 +339,7 @@ fields_ok techs (Rows Bottom) at found l f r new e =
         bottom_tech = kept_refl found.bottom.tech;
         size = kept_refl found.size;
         spacing = kept_refl found.spacing;
+        cost = kept_refl found.cost;
       };
       says = taken.0;
       same = taken.1;
@@ -351,6 +360,7 @@ fields_ok techs (Tech Bottom) at found l f r new e =
         bottom_tech = kept_none found.bottom.tech (Some t.0.0) new;
         size = kept_refl found.size;
         spacing = kept_refl found.spacing;
+        cost = kept_refl found.cost;
       };
       says = taken.0;
       same = taken.1;
@@ -371,6 +381,7 @@ fields_ok techs TerminalSize at found l f r new e =
         bottom_tech = kept_refl found.bottom.tech;
         size = kept_none found.size (Some t.0.0) new;
         spacing = kept_refl found.spacing;
+        cost = kept_refl found.cost;
       };
       says = taken.0;
       same = taken.1;
@@ -391,6 +402,28 @@ fields_ok techs TerminalSpacing at found l f r new e =
         bottom_tech = kept_refl found.bottom.tech;
         size = kept_refl found.size;
         spacing = kept_none found.spacing (Some t.0.0) new;
+        cost = kept_refl found.cost;
+      };
+      says = taken.0;
+      same = taken.1;
+    })
+fields_ok techs TerminalCost at found l f r new e =
+    let t = bind_ok (number_next 0 most_number kinds.Range l) _ _ e in
+    let taken = number_as_list 0 most_number kinds.Range l t.0.0 t.0.1 t.1 in
+    let read : ◌≡◌ {A = Found × Left} (record found { cost = Some t.0.0 }, t.0.1) (f, r) = cc in
+    subst (λ (p : Found × Left). FieldsTaken techs TerminalCost found l p.0 p.1) read (record {
+      set = refl;
+      keeps = record {
+        frame = kept_refl found.frame;
+        top_percent = kept_refl found.top.percent;
+        bottom_percent = kept_refl found.bottom.percent;
+        top_rows = kept_refl found.top.rows;
+        bottom_rows = kept_refl found.bottom.rows;
+        top_tech = kept_refl found.top.tech;
+        bottom_tech = kept_refl found.bottom.tech;
+        size = kept_refl found.size;
+        spacing = kept_refl found.spacing;
+        cost = kept_none found.cost (Some t.0.0) new;
       };
       says = taken.0;
       same = taken.1;

@@ -4,7 +4,8 @@ use Rattle.std.specs.Prelude.{codes}
 use Rattle.fp_text.specs.Words.{Word}
 use Rattle.fp_text.specs.Numbers.{Spells}
 use Rattle.fp_text.specs.Reading.{Left, word_next, keyword_next, number_next, many_next}
-use Rattle.fp_text.specs.ReadingLaws.{left_of, bind_ok, cond_ok, ok_is, word_ok, word_again, Each, many_ok, many_again}
+use Rattle.fp_text.specs.Items.{Each}
+use Rattle.fp_text.specs.ReadingLaws.{left_of, bind_ok, cond_ok, ok_is, word_ok, word_again, many_ok, many_again}
 use Rattle.fp_text.specs.declared.fault.Kind.TheVariants as kinds
 use Rattle.fp_tech.specs.Book.{place_of}
 use Rattle.fp_netlist.specs.Netlist.{Cell, Netlist, cell_names}
@@ -12,10 +13,10 @@ use Rattle.fp_contest_in.specs.Text.{ConnText, NetText, net_name_list, conn_coun
 use Rattle.fp_contest_in.specs.Grammar.{has_pin, IsPath, IsNetPin, IsNewNet, AreNets, most_conns}
 use Rattle.fp_contest_in.specs.Statements.{new_name_next, path_of, path_at, known_pin, net_pin_next, net_next, nets_next}
 use Rattle.fp_contest_in.specs.Growing.{conn_item, net_item}
-use Rattle.fp_contest_in.proofs.Taken.{keyword_ok, keyword_again, number_ok, number_again, count_is, spells_as}
-use Rattle.fp_contest_in.proofs.Names.{AreNew, place_is, place_again}
-use Rattle.fp_contest_in.proofs.Paths.{path_ok, path_again}
-use Rattle.fp_contest_in.proofs.TechsAgree.{ItemOk, ItemAgain, new_name_ok, new_name_again}
+use Rattle.fp_contest_in.specs.TakenLaws.{keyword_ok, keyword_again, number_ok, number_again, count_is, spells_as}
+use Rattle.fp_contest_in.specs.NamesLaws.{AreNew, place_is, place_again}
+use Rattle.fp_contest_in.specs.PathsLaws.{path_ok, path_again}
+use Rattle.fp_contest_in.specs.TechsLaws.{ItemOk, ItemAgain, new_name_ok, new_name_again}
 
 -- ---- pins
 

@@ -4,15 +4,16 @@ use Rattle.std.specs.Prelude.{codes}
 use Rattle.fp_text.specs.Words.{Word}
 use Rattle.fp_text.specs.Numbers.{Spells}
 use Rattle.fp_text.specs.Reading.{Left, keyword_next, name_next, number_next}
-use Rattle.fp_text.specs.ReadingLaws.{left_of, bind_ok, cond_ok, ok_is, Each, many_ok, many_again}
+use Rattle.fp_text.specs.Items.{Each}
+use Rattle.fp_text.specs.ReadingLaws.{left_of, bind_ok, cond_ok, ok_is, many_ok, many_again}
 use Rattle.fp_text.specs.declared.fault.Kind.TheVariants as kinds
 use Rattle.fp_tech.specs.Plan.{Plan}
 use Rattle.fp_contest_in.specs.Text.{InstText, inst_name_list}
 use Rattle.fp_contest_in.specs.Grammar.{Named, has_lib, IsNewInst, AreInsts}
 use Rattle.fp_contest_in.specs.Statements.{new_name_next, lib_name_next, inst_next, insts_next}
 use Rattle.fp_contest_in.specs.Growing.{inst_item}
-use Rattle.fp_contest_in.proofs.Taken.{keyword_ok, keyword_again, name_ok, name_again, number_ok, number_again, count_is, spells_as}
-use Rattle.fp_contest_in.proofs.TechsAgree.{ItemOk, ItemAgain, new_name_ok, new_name_again}
+use Rattle.fp_contest_in.specs.TakenLaws.{keyword_ok, keyword_again, name_ok, name_again, number_ok, number_again, count_is, spells_as}
+use Rattle.fp_contest_in.specs.TechsLaws.{ItemOk, ItemAgain, new_name_ok, new_name_again}
 
 -- ---- the name of a library cell that both dies have
 
