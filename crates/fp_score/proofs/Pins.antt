@@ -24,6 +24,13 @@ use Rattle.fp_score.specs.Terminals.{AreOnCuts}
 pub place_is : (placed : Placed) (cell : ℕ) (spot : Spot) → slice_get placed.spots cell ≡ Some spot → place_at (places_of placed) cell ≡ place_of spot
 place_is placed cell spot at = get_or-map place_of placed.spots cell no_spot ∙ ap place_of (get_or_from_slice_get placed.spots cell spot no_spot at)
 
+-- a connection's die is that of its cell's spot
+pub pin_die : (p : Netlist) (placed : Placed) (k : ℕ) (conn : Conn) (spot : Spot) → slice_get p.conns k ≡ Some conn → slice_get placed.spots conn.cell.0 ≡ Some spot
+    → spot.die ≡ die_of p (places_of placed) k
+pin_die p placed k conn spot at stands =
+    let conn_is : conn_at p k ≡ conn = get_or_from_slice_get p.conns k conn no_conn at in
+    sym (ap (λ (c : Conn). (place_at (places_of placed) c.cell.0).die) conn_is ∙ ap (λ (q : Place). q.die) (place_is placed conn.cell.0 spot stands))
+
 -- a connection's pin, by its cell's spot
 pub pin_point : (p : Netlist) (placed : Placed) (k : ℕ) (conn : Conn) (spot : Spot) (by : Point) → slice_get p.conns k ≡ Some conn → slice_get placed.spots conn.cell.0 ≡ Some spot
     → option_map (λ c. offset p c spot.die) (slice_get p.conns k) ≡ Some by → moved (record { x = spot.x; y = spot.y }) by ≡ point p (places_of placed) k
@@ -72,7 +79,7 @@ with_first reaches Top Bottom q points = refl
 with_first reaches Bottom Top q points = refl
 with_first reaches Bottom Bottom q points = refl
 
--- the reaches of the pins so far, stretched by those of the connections that are left, are those of all
+-- the bounding boxes of the pins so far, stretched by those of the connections that are left, are those of all
 pub record Walked (p : Netlist) (places : List Place) (net : ℕ) (left : List ℕ) (reaches : Reaches) : Type 0 where
   pub all : (die : Die) → reach_after (reach_on reaches die) (pins_of p places die left) ≡ reach_after None (pins_on p places die net)
 
@@ -95,7 +102,7 @@ pub walk_ends : (p : Netlist) (places : List Place) (net : ℕ) (reaches : Reach
 unfolding pins_of reach_after
 walk_ends p places net reaches so_far = λ i. record { top = so_far.all Top i; bottom = so_far.all Bottom i }
 
--- a net's length from its reaches, where exactly the cut nets have a terminal
+-- a net's length from its bounding boxes, where exactly the cut nets have a terminal
 pub length_is : (p : Netlist) (placed : Placed) (net : ℕ) (terminal : Option Point) (reaches : Reaches) → slice_get placed.terminals net ≡ Some terminal
     → net < length p.nets → AreOnCuts p (dies_of (places_of placed)) placed.terminals
     → reaches ≡ with_terminal (pins_reached p (places_of placed) net) terminal

@@ -3,17 +3,17 @@ use Rattle.std.specs.Prelude.{List, [], ◌∷◌, Option, Some, None, ◌^◌, 
 use Rattle.std.specs.Int.{int_min, int_max}
 use Rattle.fp_score.specs.declared.own.Ends.{Ends}
 
--- with one place more
+-- the ends of some places and of one more
 abbrev pub widened : Option Ends → ℤ → Ends
 widened None at = record { low = at; high = at }
 widened (Some ends) at = record { low = int_min ends.low at; high = int_max ends.high at }
 
--- with these places more
+-- the ends of some places and of these
 unfoldable pub ends_after : Option Ends → List ℤ → Option Ends
 ends_after ends [] = ends
 ends_after ends (at ∷ others) = ends_after (Some (widened ends at)) others
 
--- none where there are no places
+-- the ends of a list of places, none where it is empty
 abbrev pub ends_of : List ℤ → Option Ends
 ends_of places = ends_after None places
 

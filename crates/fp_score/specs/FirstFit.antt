@@ -1,6 +1,6 @@
 -- The first fit: cells go in file order, each to the first segment that has room for it, over the segments of a first die upwards and
 -- then those of the other; each cut net then takes the next slot.
-use Rattle.std.specs.Prelude.{◌≡◌, ℕ, zero, suc, ◌+◌, Bool, ◌&&◌, nat_lt, int_le, if◌then◌else◌, List, [], ◌∷◌, ◌++◌, length, map, get_or, nat_eq, Option, Some, None, Result, Ok, Err, ℤ, pos, ◌+ℤ◌}
+use Rattle.std.specs.Prelude.{◌≡◌, ℕ, zero, suc, ◌+◌, ◌<◌, Bool, ◌&&◌, nat_lt, int_le, if◌then◌else◌, List, [], ◌∷◌, ◌++◌, length, map, get_or, nat_eq, Option, Some, None, Result, Ok, Err, ℤ, pos, ◌+ℤ◌}
 use Rattle.std.specs.List.{range_with_len}
 use Rattle.fp_base.specs.declared.ids.Die.{Die}
 use Rattle.fp_base.specs.declared.ids.Die.TheVariants.{Top, Bottom}
@@ -102,6 +102,11 @@ with_slots p slots (Ok seats) = if nat_lt slots (cut p (seat_dies seats)) then E
 -- the first fit with a first die: the seats of all cells, or why it stops
 unfoldable pub first_fit : Netlist → ℕ → Die → Result (List Seat) Stop
 first_fit p slots first = with_slots p slots (filled p first (length p.cells) [])
+
+-- a stop at a cell is at one of the problem
+abbrev pub IsStopOf : Netlist → Stop → Type 0
+IsStopOf p (NoRoom cell) = cell.0 < length p.cells
+IsStopOf p (NoSlots cut slots) = Unit {0}
 
 -- the terminal of a net: the k-th cut net in file order takes slot k, counted from 0
 abbrev pub terminal_of : Netlist → Slots → List Die → ℕ → Option Point

@@ -1,5 +1,5 @@
 -- A first fit stops at a cell of the problem, or for want of slots.
-use Rattle.std.specs.Prelude.{◌≡◌, ℕ, ◌+◌, ◌<◌, nat_lt, List, [], ◌∷◌, ◌++◌, length, Option, Some, None, Result, Ok, Err, if◌then◌else◌}
+use Rattle.std.specs.Prelude.{◌≡◌, ℕ, ◌+◌, nat_lt, List, [], ◌∷◌, ◌++◌, length, Option, Some, None, Result, Ok, Err, if◌then◌else◌}
 use Rattle.std.proofs.Common.{zero, suc, Bool, true, false, subst, refl, arith}
 use Rattle.std.proofs.lemmas.List.{length-append}
 use Rattle.fp_base.specs.declared.ids.CellId.{CellId}
@@ -8,18 +8,13 @@ use Rattle.fp_netlist.specs.Netlist.{Netlist}
 use Rattle.fp_place.specs.Cut.{cut}
 use Rattle.fp_score.specs.declared.stop.Stop.{Stop}
 use Rattle.fp_score.specs.declared.stop.Stop.TheVariants.{NoRoom, NoSlots}
-use Rattle.fp_score.specs.FirstFit.{Seat, seat_dies, seat_or, next_seat, filled, with_slots, first_fit}
+use Rattle.fp_score.specs.FirstFit.{Seat, seat_dies, seat_or, next_seat, filled, with_slots, first_fit, IsStopOf}
 
 abbrev stops : Stop → Result (List Seat) Stop
 stops stop = Err stop
 
 abbrev stands : List Seat → Result (List Seat) Stop
 stands seats = Ok seats
-
--- a stop at a cell is at one of the problem
-abbrev pub IsStopOf : Netlist → Stop → Type 0
-IsStopOf p (NoRoom cell) = cell.0 < length p.cells
-IsStopOf p (NoSlots cut slots) = Unit {0}
 
 same_stop : (a b : Stop) → stops a ≡ stops b → a ≡ b
 same_stop a b e = cc

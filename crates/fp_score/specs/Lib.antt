@@ -5,6 +5,8 @@ pub mod Pick
 pub mod Reaches
 pub mod Score
 pub mod ScoreLaws
+pub mod SlotBest
+pub mod SlotBestLaws
 pub mod Target
 pub mod TargetLaws
 pub mod Terminals

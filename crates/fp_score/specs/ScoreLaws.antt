@@ -1,4 +1,4 @@
--- Laws of reaches and lengths.
+-- Laws of bounding boxes, lengths and scores.
 use Rattle.std.specs.Prelude.{◌≡◌, ℕ, zero, suc, ◌+◌, Bool, true, false, ◌&&◌, ◌||◌, cond, List, [], ◌∷◌, ◌++◌, map, filter, All, Option, Some, None, if◌then◌else◌, pos, ◌+ℤ◌, ◌≤ℤ◌}
 use Rattle.std.specs.List.{AllByRecursion, list_any}
 use Rattle.std.proofs.Common.{refl, sym, ap, ◌∙◌, arith}
@@ -13,10 +13,10 @@ use Rattle.fp_netlist.specs.Points.{offset, moved}
 use Rattle.fp_place.specs.Cut.{conn_at, is_on, is_cut}
 use Rattle.fp_place.specs.Places.{Place, nowhere, place_at, dies_of, same_die}
 use Rattle.fp_score.specs.declared.reach.Reach.{Reach}
-use Rattle.fp_score.specs.Score.{reach_of, stretched, reach_with, half_perimeter, length_of, corner, point, pins_on, terminal_at, listed, points_on, net_length, score_below}
+use Rattle.fp_score.specs.Score.{reach_of, stretched, reach_with, half_perimeter, length_of, corner, point, pins_on, terminal_at, listed, points_on, net_length, cost_at, score_below}
 use Rattle.fp_score.specs.Reaches.{joined, reach_after, half, IsNear, IsNearReach}
 
--- a reach stays in range with a point in range
+-- a bounding box stays in range with a point in range
 pub stretched_near : (reach : Reach) (point : Point) → IsNearReach reach → IsNear point → IsNearReach (stretched reach point)
 stretched_near reach point is near = record {
   left = omega (arith, ints, clamps);
@@ -27,34 +27,41 @@ stretched_near reach point is near = record {
   high = omega (arith, ints, clamps);
 }
 
--- the reach after some points is that of the definition
+-- the bounding box after some points is that of the definition
 pub after_with : (reach : Reach) (points : List Point) → reach_after (Some reach) points ≡ Some (reach_with reach points)
 unfolding reach_after reach_with
 after_with reach [] = refl
 after_with reach (point ∷ points) = after_with (stretched reach point) points
 
--- so the length of points is the half perimeter of their reach
+-- the length of points is the half perimeter of their bounding box
 pub length_by_reach : (points : List Point) → length_of points ≡ half (reach_after None points)
 unfolding reach_after length_of
 length_by_reach [] = refl
 length_by_reach (point ∷ points) = ap half (sym (after_with (reach_of point) points))
 
--- points one after the other
+-- the bounding box after two lists of points, one after the other
 pub after_append : (reach : Option Reach) (first second : List Point) → reach_after reach (first ++ second) ≡ reach_after (reach_after reach first) second
 unfolding reach_after
 after_append reach [] second = refl
 after_append reach (point ∷ first) second = after_append (Some (joined reach point)) first second
 
--- the score net by net
+-- the score grows net by net, by the length of the net and what its terminal costs
 pub score_none : (p : Netlist) (places : List Place) (terminals : List (Option Point)) → pos 0 ≡ score_below p places terminals 0
 unfolding score_below
 score_none p places terminals = refl
 
-pub score_more : (p : Netlist) (places : List Place) (terminals : List (Option Point)) (net total more : ℕ) → pos total ≡ score_below p places terminals net
-    → pos more ≡ net_length p places terminals net → pos (total + more) ≡ score_below p places terminals (net + 1)
+pub score_more : (p : Netlist) (places : List Place) (terminals : List (Option Point)) (net total length cost : ℕ) → pos total ≡ score_below p places terminals net
+    → pos length ≡ net_length p places terminals net → cost ≡ cost_at p places net → pos (total + (length + cost)) ≡ score_below p places terminals (net + 1)
 unfolding score_below
-score_more p places terminals net total more so_far is =
-    (λ i. so_far i +ℤ is i) ∙ ap (score_below p places terminals) (let same : suc net ≡ net + 1 = omega arith in same)
+score_more p places terminals net total length cost so_far is costs =
+    (λ i. so_far i +ℤ (is i +ℤ pos (costs i))) ∙ ap (score_below p places terminals) (let same : suc net ≡ net + 1 = omega arith in same)
+
+-- a net is as long with any terminals that give it the same one
+pub net_length_by : (p : Netlist) (places : List Place) (terminals centres : List (Option Point)) (net : ℕ) → terminal_at terminals net ≡ terminal_at centres net
+    → net_length p places terminals net ≡ net_length p places centres net
+net_length_by p places terminals centres net same =
+    ap (λ t. length_of (pins_on p places Top net ++ (if is_cut p (dies_of places) net then listed t else []))
+    +ℤ length_of (pins_on p places Bottom net ++ (if is_cut p (dies_of places) net then listed t else []))) same
 
 -- points have a length of at least 0
 with_tall : (reach : Reach) (points : List Point) → reach.left ≤ℤ reach.right → reach.low ≤ℤ reach.high → pos 0 ≤ℤ half_perimeter (reach_with reach points)
@@ -119,3 +126,13 @@ net_length_same p places others terminals centres net alike same =
     let bottom = same_touch p places others Bottom (conns_of_net p net) each in
     λ i. length_of (same_pins p places others Top (conns_of_net p net) each i ++ (if top i && bottom i then listed (same i) else []))
     +ℤ length_of (same_pins p places others Bottom (conns_of_net p net) each i ++ (if top i && bottom i then listed (same i) else []))
+
+-- a net whose cells stand alike is cut in both, or in neither, and its terminal costs as much
+pub cut_same : (p : Netlist) (places others : List Place) (net : ℕ) → All (StandAlike p places others) (conns_of_net p net) → is_cut p (dies_of places) net ≡ is_cut p (dies_of others) net
+unfolding is_cut
+cut_same p places others net alike =
+    let each = recursion_from_All (StandAlike p places others) (conns_of_net p net) alike in
+    λ i. same_touch p places others Top (conns_of_net p net) each i && same_touch p places others Bottom (conns_of_net p net) each i
+
+pub cost_same : (p : Netlist) (places others : List Place) (net : ℕ) → All (StandAlike p places others) (conns_of_net p net) → cost_at p places net ≡ cost_at p others net
+cost_same p places others net alike = ap (λ b. if b then p.plan.terminal.cost else 0) (cut_same p places others net alike)

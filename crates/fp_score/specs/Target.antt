@@ -1,6 +1,6 @@
 -- Targets of cells: for a cell on a new die, where its own nets are shortest with all other cells as they stand in a base. On each axis a
 -- target is the least whole number of least own length. Terminals do not count.
-use Rattle.std.specs.Prelude.{◌≡◌, ℕ, Bool, not, nat_eq, List, [], ◌∷◌, map, ℤ, pos, ◌+ℤ◌, ◌-ℤ◌, ◌≤ℤ◌, filter}
+use Rattle.std.specs.Prelude.{◌≡◌, ℕ, ◌<◌, Bool, not, nat_eq, List, [], ◌∷◌, length, map, ℤ, pos, ◌+ℤ◌, ◌-ℤ◌, ◌≤ℤ◌, filter}
 use Rattle.std.specs.Int.{int_min, int_max}
 use Rattle.fp_base.specs.declared.ids.Die.{Die}
 use Rattle.fp_base.specs.declared.ids.Point.{Point}
@@ -8,6 +8,7 @@ use Rattle.fp_netlist.specs.Netlist.{Netlist, conns_of_cell, conns_of_net}
 use Rattle.fp_netlist.specs.Points.{offset}
 use Rattle.fp_place.specs.Places.{Place, place_at, die_at}
 use Rattle.fp_place.specs.Cut.{conn_at}
+use Rattle.fp_score.specs.Pick.{point_at}
 use Rattle.fp_score.specs.Score.{corner, point}
 use Rattle.fp_score.specs.declared.own.Axis.{Axis}
 use Rattle.fp_score.specs.declared.own.Axis.TheVariants.{X, Y}
@@ -81,3 +82,8 @@ IsTargetOn p base dies cell axis at = IsTargetOf (pulls p base cell (die_at dies
 pub record IsTarget (p : Netlist) (base : List Place) (dies : List Die) (cell : ℕ) (target : Point) : Type 0 where
   pub x : IsTargetOn p base dies cell X target.x
   pub y : IsTargetOn p base dies cell Y target.y
+
+-- a point for each cell, which is its target
+pub record AreTargets (p : Netlist) (base : List Place) (dies : List Die) (targets : List Point) : Type 0 where
+  pub many : length targets ≡ length p.cells
+  pub each : (cell : ℕ) → cell < length p.cells → IsTarget p base dies cell (point_at targets cell)

@@ -21,7 +21,7 @@ conn_next conns i items d is below =
     let within : i < length conns = omega arith in
     drop_more conns i d.0 within ∙ ap (λ k. k ∷ drop (i + 1) conns) (sym (same_conn conns i items d is))
 
--- and what holds of each holds of it
+-- what holds of each connection of the list holds of the one at an index
 pub conn_each : (P : ℕ → Type 0) (conns : List ℕ) (i : ℕ) (items : List ConnId) (d : ConnId) → items ≡ map (λ conn. record { 0 = conn }) conns → i < length items
     → All P conns → P (get_or items i d).0
 conn_each P conns i items d is below each =
@@ -29,7 +29,7 @@ conn_each P conns i items d is below each =
     let within : i < length conns = omega arith in
     subst P (sym (same_conn conns i items d is)) (each i d.0 within)
 
--- at the end none is left
+-- past the last index no connection is left
 pub conns_end : (conns : List ℕ) (i : ℕ) (items : List ConnId) → items ≡ map (λ conn. record { 0 = conn }) conns → length items ≤ i → drop i conns ≡ []
 conns_end conns i items is past =
     let many = same_many conns items is in

@@ -3,7 +3,7 @@
 ghost use Rattle.std.specs.Prelude.{◌≡◌, ◌≤◌, ◌<◌, ◌^◌, length, pos};
 ghost use Rattle.fp_place.specs.Places.{dies_of};
 ghost use Rattle.fp_place.specs.Placed.{places_of, IsPlacementOf};
-ghost use Rattle.fp_score.specs.Score.{point, net_length, score};
+ghost use Rattle.fp_score.specs.Score.{point, net_length, cost_at, score};
 ghost use Rattle.fp_score.specs.Reaches.{die_of, pins_reached, IsNear, AreNear};
 ghost use Rattle.fp_score.specs.Terminals.{AreOnCuts};
 
@@ -38,8 +38,8 @@ pub(crate) fn pin(problem: &Problem, placement: &Placement, conn: ConnId) -> Pin
     }
 }
 
-/// What a net's pins reach on each die, without its terminal: the least rectangle around them, from 0 to 2^31 on each axis, or none
-/// where the net has no pin there.
+/// The bounding box of a net's pins on each die, without its terminal: from 0 to 2^31 on each axis, or none where the net has no pin
+/// there.
 pub fn net_reaches(problem: &Problem, placement: &Placement, net: NetId) -> Reaches
     requires net { net.0 < length problem.now.nets }
     requires of_problem { IsPlacementOf problem.now placement.now }
@@ -54,8 +54,8 @@ pub fn net_reaches(problem: &Problem, placement: &Placement, net: NetId) -> Reac
     reaches
 }
 
-/// The length of a net: the half perimeters of its pins on both dies, where the terminal is one more pin on each. Exactly the cut nets
-/// have a terminal. It is below 2^34.
+/// The length of a net: its half-perimeter wirelength on both dies, where the terminal is one more pin on each. Exactly the cut nets have
+/// a terminal, and its cost is no part of the length. It is below 2^34.
 pub fn net_length(problem: &Problem, placement: &Placement, net: NetId) -> u64
     requires net { net.0 < length problem.now.nets }
     requires of_problem { IsPlacementOf problem.now placement.now }
@@ -68,16 +68,31 @@ pub fn net_length(problem: &Problem, placement: &Placement, net: NetId) -> u64
         .length()
 }
 
-/// The score: the sum of the lengths of all nets, below 2^52.
+// What the terminal of a net costs: the cost that the problem states, and nothing where the net has no terminal.
+fn terminal_cost(problem: &Problem, placement: &Placement, net: NetId) -> u64
+    requires net { net.0 < length problem.now.nets }
+    requires of_problem { IsPlacementOf problem.now placement.now }
+    requires terminals { AreOnCuts problem.now (dies_of (places_of placement.now)) placement.now.terminals }
+    ensures cost { result ≡ cost_at problem.now (places_of placement.now) net.0 }
+    ensures most { result ≤ 2 ^ 30 }
+{
+    match placement.terminal(net) {
+        Some(_) => u64::from(problem.dies().terminal().cost),
+        None => 0,
+    }
+}
+
+/// The score: the sum of the lengths of all nets, and the problem's cost of a terminal once for each cut net. It is below 2^53.
 pub fn score(problem: &Problem, placement: &Placement) -> u64
     requires of_problem { IsPlacementOf problem.now placement.now }
     requires terminals { AreOnCuts problem.now (dies_of (places_of placement.now)) placement.now.terminals }
     ensures score { pos result ≡ score problem.now (places_of placement.now) placement.now.terminals }
-    ensures small { result < 2 ^ 52 }
+    ensures small { result < 2 ^ 53 }
 {
     let mut total = 0;
     for net in 0..problem.nets() {
-        total += net_length(problem, placement, NetId(net));
+        let net = NetId(net);
+        total += net_length(problem, placement, net) + terminal_cost(problem, placement, net);
     }
     total
 }

@@ -1,4 +1,5 @@
-//! The contest's score of a placement, and what a first fit is.
+//! The score of a placement, which is its half-perimeter wirelength and the cost of its terminals; what a first fit is, and what the best
+//! slots of terminals are.
 #![tactic(auto)]
 
 mod lengths;

@@ -58,7 +58,7 @@ pub struct Ends {
     pub high: i64,
 }
 
-// With one place more.
+// The ends of some places and one more, or of that place alone.
 fn widened(ends: Option<Ends>, at: i64) -> Ends
     requires at { (pos 0 ≤ℤ at) × (at ≤ℤ pos (2 ^ 31)) }
     requires ends { IfSome ends AreNearEnds }

@@ -1,4 +1,4 @@
-//! The least rectangle around points.
+//! Bounding boxes of points.
 
 ghost use Rattle.std.specs.Prelude.{◌≡◌, ◌≤◌, ◌^◌, pos};
 ghost use Rattle.fp_score.specs.Score.{reach_of, stretched, half_perimeter};
@@ -6,7 +6,7 @@ ghost use Rattle.fp_score.specs.Reaches.{IsNear, IsNearReach};
 
 use fp_base::Point;
 
-/// The least and the greatest coordinates of points.
+/// The bounding box of points: their least and their greatest coordinates.
 #[derive(Clone, Copy, Debug, PartialEq, Eq)]
 pub struct Reach {
     pub left: i64,
@@ -16,7 +16,7 @@ pub struct Reach {
 }
 
 impl Reach {
-    /// The reach of one point.
+    /// The bounding box of one point.
     pub fn of(point: Point) -> Reach
         ensures { result ≡ reach_of point }
     {
@@ -28,7 +28,7 @@ impl Reach {
         }
     }
 
-    /// The reach with one point more.
+    /// The bounding box with one point more.
     pub fn stretched(self, point: Point) -> Reach
         ensures { result ≡ stretched self point }
     {
@@ -40,7 +40,7 @@ impl Reach {
         }
     }
 
-    /// The half perimeter, up to 2^32, where the points are from 0 to 2^31 on each axis.
+    /// The half perimeter, at most 2^32: the width and the height together. The points are from 0 to 2^31 on each axis.
     pub fn half_perimeter(self) -> u64
         requires { IsNearReach self }
         ensures length { pos result ≡ half_perimeter self }

@@ -1,4 +1,4 @@
-//! The reach of a net's points on each die.
+//! The bounding box of a net's points on each die.
 
 ghost use Rattle.std.specs.Prelude.{◌≡◌, ◌≤◌, ◌^◌, ◌+ℤ◌, pos, IfSome};
 ghost use Rattle.fp_score.specs.Reaches.{joined, half, none_reached, with_point, with_terminal, IsNear, IsNearReach, AreNear};
@@ -6,14 +6,14 @@ ghost use Rattle.fp_score.specs.Reaches.{joined, half, none_reached, with_point,
 use crate::reach::Reach;
 use fp_base::{Die, Point};
 
-/// The reach of the points on each die, none where there are no points.
+/// The bounding box of the points on each die, none where there are no points.
 #[derive(Clone, Copy, Debug, PartialEq, Eq)]
 pub struct Reaches {
     pub top: Option<Reach>,
     pub bottom: Option<Reach>,
 }
 
-/// A reach with one point more.
+// A bounding box with one point more, or of that point alone.
 fn joined(reach: Option<Reach>, point: Point) -> Reach
     requires point { IsNear point }
     requires reach { IfSome reach IsNearReach }
@@ -26,7 +26,7 @@ fn joined(reach: Option<Reach>, point: Point) -> Reach
     }
 }
 
-/// The half perimeter, 0 where there are no points.
+// The half perimeter, 0 where there are no points.
 fn half(reach: Option<Reach>) -> u64
     requires { IfSome reach IsNearReach }
     ensures length { pos result ≡ half reach }
@@ -39,7 +39,7 @@ fn half(reach: Option<Reach>) -> u64
 }
 
 impl Reaches {
-    /// No points.
+    /// The bounding boxes of no points: none on either die.
     pub fn none() -> Reaches
         ensures none { result ≡ none_reached }
         ensures near { AreNear result }
@@ -50,7 +50,7 @@ impl Reaches {
         }
     }
 
-    /// With one point more on a die.
+    /// The bounding boxes with one point more on a die.
     pub fn with(self, die: Die, point: Point) -> Reaches
         requires point { IsNear point }
         requires reaches { AreNear self }
@@ -69,7 +69,7 @@ impl Reaches {
         }
     }
 
-    /// With a terminal, which is one point more on each die.
+    /// The bounding boxes with a net's terminal, which is one point more on each die.
     pub fn with_terminal(self, terminal: Option<Point>) -> Reaches
         requires terminal { IfSome terminal IsNear }
         requires reaches { AreNear self }
@@ -82,7 +82,7 @@ impl Reaches {
         }
     }
 
-    /// The half perimeters of both dies, up to 2^33.
+    /// The half-perimeter wirelength on both dies, at most 2^33.
     pub fn length(self) -> u64
         requires { AreNear self }
         ensures length { pos result ≡ (half self.top +ℤ half self.bottom) }

@@ -1,7 +1,24 @@
 use Rattle.std.proofs.Common.{◌+ℤ◌, FitsSigned, w64, arith, rules}
 use Rattle.std.proofs.lemmas.Int.{ints, to_z-of_z}
-use Rattle.fp_score.proofs.Pins.{pin_point, pin_near}
+use Rattle.fp_score.proofs.Pins.{pin_die, pin_point, pin_near}
 use Rattle.fp_score.proofs.lengths.pin.Goals as goal
+
+pub overflow_add-result : goal.overflow_add-result
+overflow_add-result c =
+    let a : FitsSigned w64 c.spot-spot.result.x = search rules in
+    let b : FitsSigned w64 c.offset-offset.result.x = search rules in
+    let is = pin_near c.args.problem.now c.args.placement.now c.conn.result.cell.0 c.spot-spot.result c.offset-offset.result c.requires.of_problem c.spot-spot.ensures.spot c.offset-offset.ensures.x c.offset-offset.ensures.y in
+    simp to_z-of_z (omega (arith, ints, is.left, is.right))
+
+pub overflow_add-result-2 : goal.overflow_add-result-2
+overflow_add-result-2 c =
+    let a : FitsSigned w64 c.spot-spot.result.y = search rules in
+    let b : FitsSigned w64 c.offset-offset.result.y = search rules in
+    let is = pin_near c.args.problem.now c.args.placement.now c.conn.result.cell.0 c.spot-spot.result c.offset-offset.result c.requires.of_problem c.spot-spot.ensures.spot c.offset-offset.ensures.x c.offset-offset.ensures.y in
+    simp to_z-of_z (omega (arith, ints, is.low, is.high))
+
+pub returns-clause-die : goal.returns-clause-die
+returns-clause-die c = pin_die c.args.problem.now c.args.placement.now c.args.conn.0 c.conn.result c.spot-spot.result c.conn.ensures.conn c.spot-spot.ensures.spot
 
 pub returns-clause-point : goal.returns-clause-point
 returns-clause-point c =

@@ -11,7 +11,7 @@ loop-net-init c = record {
 
 pub loop-net-preserved : goal.loop-net-preserved
 loop-net-preserved c = record {
-  so_far = score_more c.args.problem.now (places_of c.args.placement.now) c.args.placement.now.terminals c.loop-net.net c.loop-net.total c.net_length-total.result
-      c.loop-net.invariant.so_far c.net_length-total.ensures.length;
-  small = omega (arith, c.net_length-total.ensures.small, c.loop-net.invariant.small);
+  so_far = score_more c.args.problem.now (places_of c.args.placement.now) c.args.placement.now.terminals c.loop-net.net c.loop-net.total c.net_length.result
+      c.terminal_cost.result c.loop-net.invariant.so_far c.net_length.ensures.length c.terminal_cost.ensures.cost;
+  small = omega (arith, c.net_length.ensures.small, c.terminal_cost.ensures.most, c.loop-net.invariant.small);
 }

@@ -6,5 +6,5 @@ use Rattle.fp_score.proofs.lengths.score.Given as goal
 abbrev pub invariant-loop-net : goal.invariant-loop-net
 invariant-loop-net l = record {
   so_far : pos l.total ≡ score_below l.problem (places_of l.placement) l.placement.terminals l.net;
-  small : l.total + l.net ≤ l.net * 2 ^ 34;
+  small : l.total + l.net ≤ l.net * 2 ^ 35;
 }
