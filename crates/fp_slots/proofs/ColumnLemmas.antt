@@ -3,12 +3,12 @@ use Rattle.std.proofs.Common.{◌≡◌, ℕ, ◌+◌, ◌-◌, ◌*◌, ◌%◌
 use Rattle.std.proofs.lemmas.Int.{ints}
 use Rattle.std.proofs.lemmas.Nat.{div-mul-add, mod-mul-add}
 use Rattle.fp_base.specs.declared.ids.Point.{Point}
-use Rattle.fp_tech.specs.Slots.{Slots, across, slot_count, column_x, row_y, centre_of}
+use Rattle.fp_tech.specs.Slots.{Slots, across, slot_count, stripe_of, column_x, row_y, centre_of}
 use Rattle.fp_tech.specs.SlotsLaws.{column_in}
 use Rattle.fp_match.specs.Prices.{IsNear}
 use Rattle.fp_slots.specs.declared.cut_net.CutNet.{CutNet}
 use Rattle.fp_slots.specs.CutNets.{length_with, IsNearNet, IsWindow, IsShortOnEach}
-use Rattle.fp_slots.specs.Table.{SlotTable, row_at, cost_of, stripe_of, AreShort}
+use Rattle.fp_slots.specs.Table.{SlotTable, row_at, cost_of, AreShort}
 use Rattle.fp_slots.proofs.SlotLemmas.{stripe_is, row_of, column_of, first_of_row}
 use Rattle.fp_slots.proofs.Tables.{AreNearSlots, cost_is, row_found, row_near}
 
@@ -52,7 +52,7 @@ is_near table row stripe limit start end before until near near_slots window sta
         (ap (λ r. length_with it (record { x = pos (column_x table.grid (slot % across table.grid)); y = pos (row_y table.grid r) })) (sym (row_of table.grid stripe slot from to below)))
         (cost_is table row slot near (near_slots slot below))
 
--- and no others
+-- in each of those columns the net is shorter than the limit on either die alone
 are_short : (table : SlotTable) (row stripe limit start end before until : ℕ) → stripe * stripe_of table.grid < slot_count table.grid
     → IsWindow (row_at table row) (pos (row_y table.grid stripe)) limit start end
     → StandBefore table.grid start before → StandBefore table.grid end until → until ≤ across table.grid

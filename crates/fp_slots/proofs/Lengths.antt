@@ -39,7 +39,7 @@ length_near it centre is near =
     let same = length_by_axes it centre in
     (let P : ℤ → Type 0 = λ z. (pos 0 ≤ℤ z) × (z ≤ℤ pos (2 ^ 33)) in subst P same both)
 
--- how far a reach goes with one more number
+-- how wide an interval is with one more number
 abbrev pub span : ℤ → ℤ → ℤ → ℤ
 span l r x = int_max r x -ℤ int_min l x
 
@@ -55,14 +55,14 @@ wide l r x = record {
   to_right = omega (arith, ints, clamps);
 }
 
--- from its left end on it goes from there to the right end or to the number
+-- an interval with a number past its left end goes from there to its right end or to the number
 within : (l r b : ℤ) → l ≤ℤ b → b ≤ℤ r → span l r b ≡ r -ℤ l
 within l r b after before = omega (arith, ints, clamps)
 
 beyond : (l r b : ℤ) → l ≤ℤ b → r ≤ℤ b → span l r b ≡ b -ℤ l
 beyond l r b after before = omega (arith, ints, clamps)
 
--- no number is less far from two reaches together than the greater one of their left ends
+-- no number is less far from two intervals together than the greater one of their left ends
 first_least : (l r m s x : ℤ) → l ≤ℤ r → m ≤ℤ s → m ≤ℤ l → (span l r l +ℤ span m s l) ≤ℤ (span l r x +ℤ span m s x)
 first_least l r m s x first second later =
     by_lt_z l s
@@ -88,7 +88,7 @@ least_width it is = record {
   least = λ x. no_less it.top.left it.top.right it.bottom.left it.bottom.right x is.top.wide is.bottom.wide;
 }
 
--- so no x makes the length less
+-- at no x is the net shorter than at the best one
 pub least_length : (it : CutNet) (x y : ℤ) → IsNearNet it → length_with it (record { x = best_x it; y = y }) ≤ℤ length_with it (record { x = x; y = y })
 least_length it x y is = added (width_with it (best_x it)) (width_with it x) (height_with it y) ((least_width it is).least x)
   where

@@ -22,7 +22,7 @@ use Rattle.fp_slots.specs.declared.cut_net.CutNet.{CutNet}
 use Rattle.fp_slots.specs.CutNets.{on_both, cut_net_of, cut_nets, IsNearNet}
 use Rattle.fp_slots.specs.Table.{no_net, IsRowOf}
 
--- pins reach a die exactly where one of them is on it
+-- pins have a bounding box on a die exactly where one of them is on it
 reached : (p : Netlist) (places : List Place) (die : Die) (conns : List ℕ)
     → is_some (reach_after None (map (point p places) (filter (is_on p (dies_of places) die) conns))) ≡ list_any (is_on p (dies_of places) die) conns
 unfolding reach_after
@@ -41,7 +41,7 @@ reached_die : (p : Netlist) (places : List Place) (die : Die) (net : ℕ) → is
 unfolding pins_on
 reached_die p places die net = reached p places die (conns_of_net p net)
 
--- a net is cut exactly where its pins reach both dies
+-- a net is cut exactly where its pins have a bounding box on both dies
 both_reached : (net : NetId) (top bottom : Option Reach) → is_some (on_both net top bottom) ≡ (is_some top && is_some bottom)
 both_reached net None bottom = refl
 both_reached net (Some top) None = refl
@@ -56,7 +56,7 @@ some_where_cut p places net =
     both_reached (record { 0 = net }) (pins_reached p places net).top (pins_reached p places net).bottom
     ∙ (λ i. reached_die p places Top net i && reached_die p places Bottom net i)
 
--- what a net is whose pins reach both dies
+-- what a net is whose pins have a bounding box on both dies
 record IsOnBoth (net : NetId) (top bottom : Option Reach) (it : CutNet) : Type 0 where
   net_is : it.net ≡ net
   top_is : top ≡ Some it.top
@@ -94,7 +94,7 @@ more p places net reaches next rows new so_far are is grown =
     grown ∙ (λ i. so_far i ++ option_to_list ((is ∙ ap (cut_net_of (record { 0 = net })) are) i))
     ∙ ap (cut_nets p places) (let up : suc net ≡ net + 1 = omega arith in up)
 
--- so many as are cut
+-- there are as many rows as cut nets
 pub length-cut_nets : (p : Netlist) (places : List Place) (nets : ℕ) → length (cut_nets p places nets) ≡ cut_below p (dies_of places) nets
 unfolding cut_nets cut_below
 length-cut_nets p places zero = refl
@@ -130,7 +130,7 @@ rows_are p places (suc net) few row within = by (net_at p places net) refl (rows
               subst (IsRowOf p places row) (sym there) (subst (λ n. IsRowOf p places n it) count (row_is p places net it (omega arith) is)))
         ]
 
--- the reaches of a cut net are in range
+-- the bounding boxes of a cut net are in range
 pub cut_net_near : (net : NetId) (reaches : Reaches) (it : CutNet) → AreNear reaches → Some it ≡ cut_net_of net reaches → IsNearNet it
 cut_net_near net reaches it near is =
     let both = parts net reaches.top reaches.bottom it (sym is) in
@@ -139,7 +139,7 @@ cut_net_near net reaches it near is =
       bottom = subst (λ (r : Option Reach). IfSome r IsNearReach) both.bottom_is near.bottom;
     }
 
--- there are no more than nets
+-- there are no more cut nets than nets
 cut_few : (p : Netlist) (dies : List Die) (nets : ℕ) → cut_below p dies nets ≤ nets
 unfolding cut_below
 cut_few p dies zero = omega arith

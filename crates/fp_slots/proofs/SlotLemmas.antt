@@ -8,10 +8,9 @@ use Rattle.fp_base.specs.declared.ids.Point.{Point}
 use Rattle.fp_tech.specs.declared.dies.Frame.{Frame}
 use Rattle.fp_tech.specs.declared.dies.TermSpec.{TermSpec}
 use Rattle.fp_tech.specs.Plan.{IsFrame, IsTermSpec}
-use Rattle.fp_tech.specs.Slots.{Slots, pitch_x, across, up, slot_count, column_x, row_y, centre_of, KeepsEdges, IsGrid}
+use Rattle.fp_tech.specs.Slots.{Slots, pitch_x, across, up, slot_count, stripe_of, column_x, row_y, centre_of, KeepsEdges, IsGrid}
 use Rattle.fp_tech.specs.SlotsLaws.{slot_keeps_edges, step_some}
 use Rattle.fp_score.specs.Reaches.{IsNear}
-use Rattle.fp_slots.specs.Table.{stripe_of}
 
 -- a slot's centre is in range
 pub centre_near : (frame : Frame) (terminal : TermSpec) (grid : Slots) → IsFrame frame → IsTermSpec terminal → IsGrid frame terminal grid
@@ -86,7 +85,7 @@ step_is grid step first second two first_is second_is is =
     apart : pos (column_x grid 1) -ℤ pos (column_x grid 0) ≡ pos (grid.stride * pitch_x grid.terminal)
     apart = omega (arith, ints)
 
--- and so each slot of a row is so many steps from the first
+-- each slot of a row is so many steps from the first
 pub steps_are : (grid : Slots) (step : ℕ) → step ≡ grid.stride * pitch_x grid.terminal → (k : ℕ) → column_x grid 0 + k * step ≡ column_x grid k
 unfolding column_x
 steps_are grid step is k = omega (arith, ap (λ n. k * n) is)

@@ -6,7 +6,7 @@ use Rattle.std.proofs.lemmas.List.Elements.{All-get_or}
 use Rattle.fp_base.specs.declared.ids.Die.{Die}
 use Rattle.fp_base.specs.declared.ids.Die.TheVariants.{Top, Bottom}
 use Rattle.fp_base.specs.declared.ids.Point.{Point}
-use Rattle.fp_tech.specs.Slots.{Slots, across, slot_count, slot_limit, row_y, centre_of}
+use Rattle.fp_tech.specs.Slots.{Slots, across, slot_count, stripe_of, slot_limit, row_y, centre_of}
 use Rattle.fp_netlist.specs.Netlist.{Netlist}
 use Rattle.fp_place.specs.Cut.{is_cut}
 use Rattle.fp_place.specs.Places.{Place, dies_of}
@@ -19,10 +19,10 @@ use Rattle.fp_score.specs.Reaches.{joined, half, reach_after, IsNear}
 use Rattle.fp_score.specs.ScoreLaws.{length_by_reach, after_append}
 use Rattle.fp_slots.specs.declared.cut_net.CutNet.{CutNet}
 use Rattle.fp_slots.specs.CutNets.{width_with, height_with, length_with, best_x, cut_nets, IsLeastAt, IsNearNet}
-use Rattle.fp_slots.specs.Table.{SlotTable, no_net, row_at, cost_of, stripe_of, IsRowOf, IsCostsOf}
+use Rattle.fp_slots.specs.Table.{SlotTable, no_net, row_at, cost_of, IsRowOf, IsCostsOf}
 use Rattle.fp_slots.proofs.Lengths.{pos_abs, length_by_axes, length_near, least_width, least_length}
 use Rattle.fp_slots.proofs.Rows.{length-cut_nets, rows_are}
-use Rattle.fp_slots.proofs.SlotLemmas.{row_of, first_of_row}
+use Rattle.fp_slots.proofs.SlotLemmas.{stripe_is, row_of, first_of_row}
 
 -- every slot's centre is in range
 abbrev pub AreNearSlots : Slots → Type 0
@@ -52,7 +52,7 @@ least_at it y floor near is = (width_with it (best_x it), least_width it near, i
     swapped : (a b : ℤ) → a +ℤ b ≡ b +ℤ a
     swapped a b = omega (arith, ints)
 
--- and so no slot of that y costs less
+-- no slot of a stripe costs less than the least length at its y
 is_floor : (table : SlotTable) (row stripe floor : ℕ) → IsNearNet (row_at table row) → AreNearSlots table.grid
     → pos floor ≡ length_with (row_at table row) (record { x = best_x (row_at table row); y = pos (row_y table.grid stripe) })
     → IsFloor (cost_of table row) (slot_count table.grid) (stripe_of table.grid) stripe floor
@@ -133,7 +133,7 @@ best_length table row stripe floor wide found x first below found_is x_is wide_i
 -- what is computed for a row and a stripe is the least length at the stripe's y, and a floor
 pub floors : (table now : SlotTable) (row stripe floor wide : ℕ) (found : CutNet) (x : ℤ) (first : Point) → table ≡ now → All IsNearNet table.rows → AreNearSlots table.grid
     → row < length now.rows → stripe * stripe_of now.grid < slot_count now.grid
-    → found ≡ get_or table.rows row found → x ≡ best_x found → wide ≡ across table.grid → first ≡ centre_of table.grid (stripe * wide)
+    → found ≡ get_or table.rows row found → x ≡ best_x found → wide ≡ stripe_of table.grid → first ≡ centre_of table.grid (stripe * wide)
     → pos floor ≡ length_with found (record { x = x; y = first.y })
     → IsLeastAt (row_at now row) (pos (row_y now.grid stripe)) floor × IsFloor (cost_of now row) (slot_count now.grid) (stripe_of now.grid) stripe floor
 floors table now row stripe floor wide found x first same near near_slots within below found_is x_is wide_is first_is is =
@@ -150,4 +150,5 @@ floors table now row stripe floor wide found x first same near near_slots within
     near_row = row_near table row row_in near
 
     length_is : pos floor ≡ length_with (row_at table row) (record { x = best_x (row_at table row); y = pos (row_y table.grid stripe) })
-    length_is = best_length table row stripe floor wide found x first stripe_in (row_found table row found row_in found_is) x_is wide_is first_is is
+    length_is = best_length table row stripe floor wide found x first stripe_in (row_found table row found row_in found_is) x_is
+        (wide_is ∙ stripe_is table.grid (stripe * stripe_of table.grid) stripe_in) first_is is

@@ -10,7 +10,7 @@ use Rattle.fp_slots.specs.declared.cut_net.CutNet.{CutNet}
 use Rattle.fp_slots.specs.CutNets.{width_with, height_with, fixed_length, IsNearNet, IsWindow}
 use Rattle.fp_slots.proofs.Lengths.{pos_abs, span, wide}
 
--- a terminal at a reach's left end adds nothing in x
+-- a terminal at a bounding box's left end adds nothing in x
 left_adds_none : (l r m s a b : ℤ) → l ≤ℤ r → m ≤ℤ s → (span l r l +ℤ a) +ℤ (span m s m +ℤ b) ≡ ((r -ℤ l) +ℤ (s -ℤ m)) +ℤ (a +ℤ b)
 left_adds_none l r m s a b first second = omega (arith, ints, clamps)
 
@@ -29,7 +29,7 @@ fixed_by_axes it y is =
     left_adds_none it.top.left it.top.right it.bottom.left it.bottom.right (int_max it.top.high y -ℤ int_min it.top.low y) (int_max it.bottom.high y -ℤ int_min it.bottom.low y)
     is.top.wide is.bottom.wide
 
--- a terminal adds at least how far it is from either reach
+-- a terminal adds at least how far it is from either bounding box
 before_adds : (l r m s x : ℤ) (slack : ℕ) → (x +ℤ pos slack) ≤ℤ int_max l m → (((r -ℤ l) +ℤ (s -ℤ m)) +ℤ pos slack) ≤ℤ (span l r x +ℤ span m s x)
 before_adds l r m s x slack far =
     omega (arith, ints, int_max_is l m, far, (wide l r x).whole, (wide l r x).to_right, (wide m s x).whole, (wide m s x).to_right)
@@ -58,12 +58,12 @@ no_window it y limit fixed is enough = record {
     none : {a b : ℤ} → a ≤ℤ b → (a +ℤ pos 0) ≤ℤ b
     none {a} {b} less = omega (arith, ints, less)
 
--- what is less than the slack from a reach adds less
+-- what is less than the slack from a bounding box adds less
 adds_less : (l r fixed : ℤ) (x limit slack left right : ℕ) → l ≤ℤ r → pos limit ≡ fixed +ℤ pos slack → 0 < slack → l ≤ℤ pos left → pos right ≤ℤ r
     → left < x + slack → x < right + slack → (fixed +ℤ (span l r (pos x) -ℤ (r -ℤ l))) <ℤ pos limit
 adds_less l r fixed x limit slack left right wide is some left_is right_is after before = omega (arith, ints, clamps)
 
--- what is less than the slack from both reaches
+-- the x that are less than the slack from both bounding boxes are a window
 pub is_window : (it : CutNet) (y : ℤ) (limit fixed slack left right start end : ℕ) → IsNearNet it → pos fixed ≡ fixed_length it y → limit ≡ fixed + slack → 0 < slack
     → pos left ≡ int_max it.top.left it.bottom.left → pos right ≡ int_min it.top.right it.bottom.right
     → ((x : ℕ) → (x < start) ↔ (x + slack ≤ left)) → ((x : ℕ) → x ≤ 2 ^ 31 → end ≤ x → right + slack ≤ x) → ((x : ℕ) → x < end → x < right + slack)

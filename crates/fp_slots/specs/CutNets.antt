@@ -11,7 +11,7 @@ use Rattle.fp_score.specs.declared.reaches.Reaches.{Reaches}
 use Rattle.fp_score.specs.Reaches.{pins_reached, IsNearReach}
 use Rattle.fp_slots.specs.declared.cut_net.CutNet.{CutNet}
 
--- a net that reaches both dies
+-- a net that has pins on both dies
 abbrev pub on_both : NetId → Option Reach → Option Reach → Option CutNet
 on_both net None bottom = None
 on_both net (Some top) None = None
@@ -29,7 +29,7 @@ cut_nets p places (suc net) = cut_nets p places net ++ option_to_list (cut_net_o
 abbrev pub width_with : CutNet → ℤ → ℤ
 width_with it x = (int_max it.top.right x -ℤ int_min it.top.left x) +ℤ (int_max it.bottom.right x -ℤ int_min it.bottom.left x)
 
--- and in y
+-- how long a net is in y with its terminal at that y, both dies added
 abbrev pub height_with : CutNet → ℤ → ℤ
 height_with it y = (int_max it.top.high y -ℤ int_min it.top.low y) +ℤ (int_max it.bottom.high y -ℤ int_min it.bottom.low y)
 
@@ -50,7 +50,7 @@ IsLeastAt it y floor = (width : ℤ) × IsLeastWidth it width × (pos floor ≡ 
 abbrev pub best_x : CutNet → ℤ
 best_x it = int_max it.top.left it.bottom.left
 
--- both reaches are in range
+-- both bounding boxes are in range
 pub record IsNearNet (it : CutNet) : Type 0 where
   pub top : IsNearReach it.top
   pub bottom : IsNearReach it.bottom
@@ -59,7 +59,7 @@ pub record IsNearNet (it : CutNet) : Type 0 where
 abbrev pub fixed_length : CutNet → ℤ → ℤ
 fixed_length it y = ((it.top.right -ℤ it.top.left) +ℤ (it.bottom.right -ℤ it.bottom.left)) +ℤ height_with it y
 
--- how much longer in x a reach gets with a terminal at that x
+-- how much wider a bounding box gets with a terminal at that x
 abbrev pub added : Reach → ℤ → ℤ
 added reach x = (int_max reach.right x -ℤ int_min reach.left x) -ℤ (reach.right -ℤ reach.left)
 

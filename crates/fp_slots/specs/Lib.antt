@@ -1,4 +1,5 @@
 pub mod CutNets
 pub mod KeptTable
+pub mod LeastLaws
 pub mod Table
 pub mod TableLaws

@@ -1,7 +1,7 @@
 -- Cut nets and slots, and what each slot costs each net.
-use Rattle.std.specs.Prelude.{◌≡◌, ℕ, ◌+◌, ◌*◌, ◌<◌, ◌≤◌, ◌==◌, true, if◌then◌else◌, List, length, get_or, set, Some, pos, unsigned_abs}
+use Rattle.std.specs.Prelude.{◌≡◌, ℕ, ◌+◌, ◌*◌, ◌<◌, ◌≤◌, true, List, length, get_or, set, Some, pos, unsigned_abs}
 use Rattle.fp_base.specs.declared.ids.Point.{Point}
-use Rattle.fp_tech.specs.Slots.{Slots, across, slot_count, centre_of}
+use Rattle.fp_tech.specs.Slots.{Slots, slot_count, stripe_of, centre_of}
 use Rattle.fp_netlist.specs.Netlist.{Netlist}
 use Rattle.fp_place.specs.Cut.{is_cut, cut_below, cut}
 use Rattle.fp_place.specs.Places.{Place, dies_of}
@@ -34,11 +34,7 @@ net_of table row = (row_at table row).net.0
 abbrev pub cost_of : SlotTable → ℕ → ℕ → ℕ
 cost_of table row slot = unsigned_abs (length_with (row_at table row) (centre_of table.grid slot))
 
--- the slots of one y are a stripe
-abbrev pub stripe_of : Slots → ℕ
-stripe_of grid = if slot_count grid == 0 then 1 else across grid
-
--- the slots of a range are of the stripe, and the row's net is shorter than the limit with what each adds on either die alone
+-- the slots of a range are of the stripe, which is all slots of one y, and the row's net is shorter than the limit with what each adds on either die alone
 pub record AreShort (table : SlotTable) (row stripe limit start end : ℕ) : Type 0 where
   pub from : (slot : ℕ) → start ≤ slot → slot < end → stripe * stripe_of table.grid ≤ slot
   pub to : (slot : ℕ) → start ≤ slot → slot < end → slot < stripe * stripe_of table.grid + stripe_of table.grid

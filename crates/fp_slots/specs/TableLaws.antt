@@ -1,35 +1,14 @@
 -- Laws of the costs of slots: each cut net has a row of its own.
-use Rattle.std.specs.Prelude.{◌≡◌, ℕ, zero, suc, ◌<◌, true, if◌then◌else◌, List, length}
-use Rattle.std.proofs.Common.{sym, ap, ◌∙◌, inl, inr, arith}
-use Rattle.std.proofs.lemmas.Bool.{cases_lt, cases_order}
+use Rattle.std.specs.Prelude.{◌≡◌, ℕ, ◌<◌, true, List, length}
+use Rattle.std.proofs.Common.{arith}
 use Rattle.fp_base.specs.declared.ids.Die.{Die}
 use Rattle.fp_tech.specs.Slots.{Slots}
 use Rattle.fp_netlist.specs.Netlist.{Netlist}
 use Rattle.fp_place.specs.Cut.{is_cut, cut_below}
+use Rattle.fp_place.specs.CutLaws.{cut_rises, cut_once}
 use Rattle.fp_place.specs.Places.{dies_of}
 use Rattle.fp_place.specs.Placed.{Placed, places_of}
 use Rattle.fp_slots.specs.Table.{SlotTable, row_at, net_of, IsRowOf, IsCostsOf}
-
--- a cut net counts among those before each later one
-cut_rises : (p : Netlist) (dies : List Die) (net later : ℕ) → is_cut p dies net ≡ true → net < later → cut_below p dies net < cut_below p dies later
-unfolding cut_below
-cut_rises p dies net zero is less = absurd (omega arith)
-cut_rises p dies net (suc later) is less =
-    elim (cases_lt net later) [
-      | inl before ↦ omega (arith, cut_rises p dies net later is before)
-      | inr here ↦ (let same : net ≡ later = omega arith in
-          let one : ◌≡◌ {A = ℕ} (if is_cut p dies later then 1 else 0) 1 = ap (λ b. if b then 1 else 0) (ap (is_cut p dies) (sym same) ∙ is) in
-          omega (arith, ap (cut_below p dies) same, one))
-    ]
-
--- two cut nets with as many before them are one
-cut_once : (p : Netlist) (dies : List Die) (a b : ℕ) → is_cut p dies a ≡ true → is_cut p dies b ≡ true → cut_below p dies a ≡ cut_below p dies b → a ≡ b
-cut_once p dies a b is_a is_b same =
-    elim (cases_order a b) [
-      | inl equal ↦ equal
-      | inr (inl less) ↦ absurd (omega (arith, cut_rises p dies a b is_a less))
-      | inr (inr more) ↦ absurd (omega (arith, cut_rises p dies b a is_b more))
-    ]
 
 -- a cut net has the row of the number of cut nets before it
 pub record HasRow (p : Netlist) (placed : Placed) (table : SlotTable) (net : ℕ) : Type 0 where

@@ -1,4 +1,4 @@
-//! A net that is cut, by what its pins reach.
+//! A net that is cut, by the bounding boxes of its pins.
 
 ghost use Rattle.std.specs.Prelude.{◌≡◌, ◌<◌, ◌≤◌, ◌^◌, ◌≤ℤ◌, ℕ, pos};
 ghost use Rattle.fp_score.specs.Reaches.{IsNear};
@@ -8,7 +8,7 @@ use fp_base::{NetId, Point};
 use fp_score::{Reach, Reaches};
 use std::ops::Range;
 
-/// A cut net, and what its pins reach on each die.
+/// A cut net, and the bounding box of its pins on each die.
 #[derive(Clone, Copy)]
 pub(crate) struct CutNet {
     pub(crate) net: NetId,
@@ -17,7 +17,7 @@ pub(crate) struct CutNet {
 }
 
 impl CutNet {
-    /// The net of these reaches, where it has pins on both dies: then it is cut.
+    /// The net of these bounding boxes, where it has pins on both dies: then it is cut.
     pub(crate) fn of(net: NetId, reaches: Reaches) -> Option<CutNet>
         ensures { result ≡ cut_net_of net reaches }
     {
@@ -27,7 +27,7 @@ impl CutNet {
         }
     }
 
-    /// The net's length with its terminal there: the half perimeters of both dies' pins with it, up to 2^33.
+    /// The net's length with its terminal there: its half-perimeter wirelength on both dies with it, at most 2^33.
     pub(crate) fn length_with(self, centre: Point) -> u64
         requires net { IsNearNet self }
         requires centre { IsNear centre }
@@ -39,8 +39,8 @@ impl CutNet {
         top + bottom
     }
 
-    /// An x at which a terminal makes the net no longer than at any other: the further one of the left ends of both dies' reaches. It lies in
-    /// both reaches where they meet, and else between them.
+    /// An x at which a terminal makes the net no longer than at any other: the further one of the left ends of both dies' bounding boxes. It
+    /// lies in both of them where they meet in x, and else between them.
     pub(crate) fn best_x(self) -> i64
         ensures { result ≡ best_x self }
     {

@@ -1,11 +1,11 @@
 //! What each slot costs each cut net.
 
 ghost use Rattle.std.specs.Prelude.{◌≡◌, ◌<◌, ◌≤◌, ◌*◌, ◌^◌, All, IfOk, length, pos};
-ghost use Rattle.fp_tech.specs.Slots.{slot_count, row_y, IsGrid};
+ghost use Rattle.fp_tech.specs.Slots.{slot_count, stripe_of, row_y, IsGrid};
 ghost use Rattle.fp_place.specs.Placed.{places_of, IsPlacementOf};
 ghost use Rattle.fp_match.specs.Prices.{IsFloor, IsNear};
 ghost use Rattle.fp_slots.specs.CutNets.{cut_nets, IsNearNet, IsLeastAt};
-ghost use Rattle.fp_slots.specs.Table.{row_at, net_of, cost_of, stripe_of, AreShort, IsCostsOf};
+ghost use Rattle.fp_slots.specs.Table.{row_at, net_of, cost_of, AreShort, IsCostsOf};
 
 use crate::columns::Columns;
 use crate::cut_net::CutNet;
@@ -20,7 +20,7 @@ use std::marker::Model;
 use std::ops::Range;
 
 /// What it costs to give a cut net's terminal a slot: the net's length with its terminal there. Rows are the cut nets in file order, columns
-/// the slots of a grid, and a stripe is the slots of one y. No cost is kept: each is computed from what the net's pins reach on each die.
+/// the slots of a grid, and a stripe is the slots of one y. No cost is kept: each is computed from the bounding boxes of the net's pins.
 #[derive(Drop)]
 pub struct SlotCosts {
     rows: Vec<CutNet>,
@@ -65,7 +65,7 @@ impl SlotCosts {
     }
 }
 
-// The cut nets in file order.
+// The cut nets in file order, with their bounding boxes.
 fn cut_nets(
     alloc: Global,
     problem: &Problem,
@@ -110,11 +110,7 @@ impl Costs for SlotCosts {
 
     /// The number of slots of one y, 1 where there is no slot.
     fn stripe(&self) -> u32 {
-        if self.grid.slots() == 0 {
-            1
-        } else {
-            self.grid.across()
-        }
+        self.grid.across()
     }
 
     /// What the row's net is long with its terminal at the stripe's y and at the best whole-number x.

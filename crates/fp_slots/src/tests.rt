@@ -14,7 +14,7 @@ use std::alloc::Global;
 use std::process::Abort;
 use std::test::Fail;
 
-/// Adds a technology with a library cell of this width, 10 high, whose pin is at (x, x + 1).
+// A technology with a library cell of this width, 10 high, whose pin is at (x, x + 1).
 fn add_tech(
     rt: &impl Abort,
     book: &mut TechBook,
@@ -33,7 +33,24 @@ fn add_tech(
     Ok(lib)
 }
 
-/// Two rows on each die, in a frame of 20 by 20 with 36 slots.
+fn add_technologies(rt: &impl Abort, book: &mut TechBook) -> Result<LibId, BuildFault> {
+    let lib = add_tech(rt, book, b"TA", 4, 1)?;
+    add_tech(rt, book, b"TB", 5, 2)?;
+    Ok(lib)
+}
+
+fn two_technologies(rt: &impl Abort, alloc: Global) -> Result<(TechBook, LibId), BuildFault> {
+    let mut book = TechBook::new(alloc);
+    match add_technologies(rt, &mut book) {
+        Ok(lib) => Ok((book, lib)),
+        Err(fault) => {
+            drop(book);
+            Err(fault)
+        }
+    }
+}
+
+// Two rows on each die, in a frame of 20 by 20 with 36 slots.
 fn small_dies(rt: &impl Abort, alloc: Global, book: TechBook) -> Result<Dies, Fail> {
     let frame = Frame {
         llx: 0,
@@ -45,8 +62,8 @@ fn small_dies(rt: &impl Abort, alloc: Global, book: TechBook) -> Result<Dies, Fa
         size_x: 2,
         size_y: 2,
         spacing: 1,
+        cost: 0,
     };
-    assert!(rt; book.techs() == 2);
     let top = DieSpec {
         percent: 50,
         tech: TechId(0),
@@ -60,10 +77,11 @@ fn small_dies(rt: &impl Abort, alloc: Global, book: TechBook) -> Result<Dies, Fa
         tech: TechId(1),
         ..top
     };
-    Ok(Dies::new(alloc, book, frame, top, bottom, terminal)?)
+    assert!(rt; book.techs() == 2);
+    Ok(Dies::new(alloc, book, frame, top, bottom, terminal, &[])?)
 }
 
-/// Two cells, and a net that joins them.
+// Two cells, and a net that joins them.
 fn fill(builder: &mut ProblemBuilder, lib: LibId) -> Result<(), BuildFault> {
     let first = builder.add_inst(b"C1", lib)?;
     let second = builder.add_inst(b"C2", lib)?;
@@ -74,16 +92,19 @@ fn fill(builder: &mut ProblemBuilder, lib: LibId) -> Result<(), BuildFault> {
 }
 
 fn small_problem(rt: &impl Abort, alloc: Global) -> Result<Problem, Fail> {
-    let mut book = TechBook::new(alloc);
-    let lib = add_tech(rt, &mut book, b"TA", 4, 1)?;
-    add_tech(rt, &mut book, b"TB", 5, 2)?;
+    let (book, lib) = two_technologies(rt, alloc)?;
     let dies = small_dies(rt, alloc, book)?;
     let mut builder = ProblemBuilder::new(alloc, dies);
-    fill(&mut builder, lib)?;
-    Ok(builder.finish()?)
+    match fill(&mut builder, lib) {
+        Ok(()) => Ok(builder.finish()?),
+        Err(fault) => {
+            drop(builder);
+            Err(Fail::new(fault))
+        }
+    }
 }
 
-/// The first cell on the top die's lower row.
+// The first cell on the top die's lower row.
 fn top_lanes(alloc: Global) -> Result<Lanes<Top>, NoMemory>
     ensures { IfOk result (λ lanes. lanes ≡ (record { 0 = 0 } ∷ []) ∷ [] ∷ []) }
 {
@@ -92,7 +113,7 @@ fn top_lanes(alloc: Global) -> Result<Lanes<Top>, NoMemory>
     Ok(lanes)
 }
 
-/// The second cell on the bottom die's lower row.
+// The second cell on the bottom die's lower row.
 fn bottom_lanes(alloc: Global) -> Result<Lanes<Bottom>, NoMemory>
     ensures { IfOk result (λ lanes. lanes ≡ (record { 0 = 1 } ∷ []) ∷ [] ∷ []) }
 {
@@ -101,7 +122,7 @@ fn bottom_lanes(alloc: Global) -> Result<Lanes<Bottom>, NoMemory>
     Ok(lanes)
 }
 
-/// Both cells at x 0, the first on the top die.
+// Both cells at x 0, the first on the top die.
 fn placed(rt: &impl Abort, alloc: Global, problem: &Problem) -> Result<Placement, NoMemory>
     ensures { IfOk result (IsPlacementOf problem.now) }
 {
@@ -113,64 +134,74 @@ fn placed(rt: &impl Abort, alloc: Global, problem: &Problem) -> Result<Placement
     Placement::build(alloc, problem, top, bottom, &[0, 0])
 }
 
-/// The costs of a problem's cut nets over its grid, with its cells placed.
+// The costs of a problem's cut nets over its grid, with its cells placed.
 fn costs_of(rt: &impl Abort, alloc: Global, problem: &Problem) -> Result<SlotCosts, NoMemory> {
     let placement = placed(rt, alloc, problem)?;
     let grid = Grid::of(problem.dies());
-    SlotCosts::new(alloc, problem, &placement, &grid)
+    let costs = SlotCosts::new(alloc, problem, &placement, &grid);
+    drop(placement);
+    costs
 }
 
-/// The costs of the small problem: one row and 36 slots.
+// The costs of the small problem: one row and 36 slots.
 fn small_costs(rt: &impl Abort, alloc: Global) -> Result<SlotCosts, Fail> {
     let problem = small_problem(rt, alloc)?;
-    Ok(costs_of(rt, alloc, &problem)?)
+    let costs = costs_of(rt, alloc, &problem);
+    drop(problem);
+    Ok(costs?)
 }
 
 #[test]
 fn costs_and_floors_by_hand(rt: HostRuntime) -> Result<(), Fail> {
     let costs = small_costs(&rt, rt.alloc())?;
-    assert!(&rt; costs.rows() == 1);
-    assert!(&rt; costs.columns() == 36);
-    expect_costs(&rt, &costs);
-    expect_floors(&rt, &costs);
-    expect_near(&rt, &costs);
-    assert_eq!(&rt; solved(rt.alloc(), &costs)?, (0, 2));
+    let done = expect_all(&rt, rt.alloc(), &costs);
+    drop(costs);
+    Ok(done?)
+}
+
+fn expect_all(rt: &impl Abort, alloc: Global, costs: &SlotCosts) -> Result<(), NoMemory> {
+    assert!(rt; costs.rows() == 1);
+    assert!(rt; costs.columns() == 36);
+    expect_costs(rt, costs);
+    expect_floors(rt, costs);
+    expect_near(rt, costs);
+    assert!(rt; solved(alloc, costs)? == (0, 2));
     Ok(())
 }
 
-/// The row's net, and what slots 0 and 7 cost it.
+// The row's net, and what slots 0 and 7 cost it.
 fn expect_costs(rt: &impl Abort, costs: &SlotCosts)
     requires row { length costs.now.rows ≡ 1 }
     requires slots { slot_count costs.now.grid ≡ 36 }
 {
-    assert_eq!(rt; costs.net_of(0), NetId(0));
-    assert_eq!(rt; costs.cost(0, 0), 2);
-    assert_eq!(rt; costs.cost(0, 7), 12);
+    assert!(rt; costs.net_of(0) == NetId(0));
+    assert!(rt; costs.cost(0, 0) == 2);
+    assert!(rt; costs.cost(0, 7) == 12);
 }
 
-/// The row's floors in six stripes.
+// The row's floors in six stripes.
 fn expect_floors(rt: &impl Abort, costs: &SlotCosts)
     requires row { length costs.now.rows ≡ 1 }
     requires slots { slot_count costs.now.grid ≡ 36 }
 {
     assert!(rt; costs.stripe() == 6);
     for (stripe, floor) in [2, 6, 12, 18, 24, 30].iter().enumerate() {
-        assert_eq!(rt; costs.floor(0, stripe as u32), *floor);
+        assert!(rt; costs.floor(0, stripe as u32) == *floor);
     }
 }
 
-/// The slots of the second stripe that may cost the row less than these limits: none, the three at x 2, 5 and 8, and all.
+// The slots of the second stripe that may cost the row less than these limits: none, the three at x 2, 5 and 8, and all.
 fn expect_near(rt: &impl Abort, costs: &SlotCosts)
     requires row { length costs.now.rows ≡ 1 }
     requires slots { slot_count costs.now.grid ≡ 36 }
 {
     assert!(rt; costs.stripe() == 6);
     for (limit, near) in [(4, 6..6), (14, 6..9), (u64::MAX, 6..12)].iter() {
-        assert_eq!(rt; costs.near(0, 1, *limit), *near);
+        assert!(rt; costs.near(0, 1, *limit) == *near);
     }
 }
 
-/// The row's slot and its cost, at least cost.
+// The row's slot and its cost, at least cost.
 fn solved(alloc: Global, costs: &SlotCosts) -> Result<(u32, u64), NoMemory>
     requires row { length costs.now.rows ≡ 1 }
     requires slots { slot_count costs.now.grid ≡ 36 }
@@ -178,5 +209,6 @@ fn solved(alloc: Global, costs: &SlotCosts) -> Result<(u32, u64), NoMemory>
     let mut matcher = Matcher::with_room(alloc, 1, 36)?;
     matcher.solve(costs);
     let slot = matcher.column_of(0);
+    drop(matcher);
     Ok((slot, costs.cost(0, slot)))
 }
