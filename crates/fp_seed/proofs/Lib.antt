@@ -1,11 +1,5 @@
-pub mod Areas
-pub mod Drawn
-pub mod Filling
 pub mod Fitting
-pub mod Legality
-pub mod Rows
 pub mod Seated
 pub mod Setting
-pub mod Shelved
+pub mod FilledSegmentLemmas
 pub mod Standing
-pub mod Terminals

@@ -1,4 +1,4 @@
--- Seats with their segments and areas, step by step.
+-- Lemmas of the seats as cells get them one after the other, with the areas and the segments of both dies.
 use Rattle.std.specs.Prelude.{◌≡◌, ℕ, zero, suc, ◌+◌, ◌<◌, Bool, true, false, ◌&&◌, nat_eq, int_le, if◌then◌else◌, List, [], ◌∷◌, ◌++◌, length, map, get_or, set, Some, None, Result, Ok, Err, IfOk, ℤ, pos, ◌+ℤ◌, ◌⊎◌}
 use Rattle.std.proofs.Common.{refl, sym, ap, subst, ◌∙◌, arith, inl, inr}
 use Rattle.std.proofs.lemmas.List.{append-nil, map_push, length-map, get_or-set_same, get_or-set_other}
@@ -10,6 +10,7 @@ use Rattle.fp_tech.specs.Plan.{segments}
 use Rattle.fp_netlist.specs.Netlist.{Netlist, ids_where}
 use Rattle.fp_netlist.specs.Points.{width, area}
 use Rattle.fp_place.specs.Places.{same_die, other_die}
+use Rattle.fp_place.specs.PlacesLaws.{same_die-refl}
 use Rattle.fp_place.specs.Areas.{fits, keeps, area_from, area_on}
 use Rattle.fp_place.specs.Held.{Held, held_on, has_room, with_area}
 use Rattle.fp_place.specs.Placed.{LaneList}
@@ -18,11 +19,11 @@ use Rattle.fp_score.specs.FirstFit as fit
 use Rattle.fp_score.specs.declared.stop.Stop.TheVariants.{NoRoom}
 use Rattle.fp_seed.specs.declared.seating.Seating.{Seating}
 use Rattle.fp_seed.specs.Seats.{IsSeating, IsTaken}
-use Rattle.fp_seed.specs.Shelved.{holds, room_in, IsReady, HoldsSeats}
-use Rattle.fp_seed.proofs.Shelved.{longer}
-use Rattle.fp_seed.proofs.Filling.{first_room_some}
-use Rattle.fp_seed.proofs.Rows.{same_die-refl, used_push}
-use Rattle.fp_seed.proofs.Areas.{area_push}
+use Rattle.fp_seed.specs.FilledSegments.{holds, room_in, IsReady, HoldsSeats}
+use Rattle.fp_seed.proofs.FilledSegmentLemmas.{longer}
+use Rattle.fp_seed.specs.FeasibleLaws.{first_room_some}
+use Rattle.fp_seed.specs.InOrderLaws.{used_push}
+use Rattle.fp_seed.specs.RulesLaws.{area_push}
 
 -- tests that agree find the same
 first_alike : (f g : ℕ → Bool) (n i : ℕ) → ((s : ℕ) → s < i + n → f s ≡ g s) → first_from f i n ≡ first_from g i n
@@ -46,7 +47,7 @@ room_first p die seats held used lanes cell are area_is =
     ∙ ap (λ o. if takes p seats cell die then o else None)
     (first_alike (holds p die used cell) (has_length p seats cell die) (length (segments p.plan die)) 0 (λ s below. holds_length p die seats used lanes cell s are (omega arith)))
 
--- one more place that passes, or not
+-- one more element adds its place to the list of those that pass, where it passes
 ids_where-push : {A : Type 0} (test : A → Bool) (i : ℕ) (xs : List A) (x : A) (last : ℕ) → i + length xs ≡ last
     → ids_where test i (xs ++ x ∷ []) ≡ ids_where test i xs ++ (if test x then last ∷ [] else [])
 unfolding ids_where
@@ -133,7 +134,7 @@ holds_apart p die seats used lanes seat are other = record {
   lane_at = λ s below. are.lane_at s below ∙ sym (sitters_apart die s seats seat (and_left (same_die seat.die die) (nat_eq seat.segment s) other));
 }
 
--- the area with one more cell
+-- the area that a die's cells take grows by that of a cell that is put on it
 pub area_here : (p : Netlist) (die : Die) (seats : List Seat) (seat : Seat) (cell : ℕ) → length seats ≡ cell → same_die seat.die die ≡ true
     → area_on p die (seat_dies (seats ++ seat ∷ [])) ≡ area_on p die (seat_dies seats) + area p cell die
 area_here p die seats seat cell last same =
@@ -150,7 +151,7 @@ area_apart p die seats seat other =
     ∙ ap (λ b. area_on p die (seat_dies seats) + (if b then area p (length seats) die else 0)) other in
     omega arith
 
--- facts of one result
+-- four facts of the value in a result give a fifth
 pub all_of_ok : {X E : Type 0} (r : Result X E) (P Q R S T : X → Type 0) → IfOk r P → IfOk r Q → IfOk r R → IfOk r S
     → ((x : X) → P x → Q x → R x → S x → T x) → IfOk r T
 all_of_ok (Ok x) P Q R S T p q r s f = f x p q r s
@@ -167,7 +168,7 @@ found_holds p die on seats used lanes cell segment are same found =
     let room = first_room_some p seats cell die segment (ap (first_room p seats cell) (sym same) ∙ found) in
     record { within = room.within; held = holds_length p die seats used lanes cell segment are room.within ∙ room.long }
 
--- a side that took the cell, and one that did not
+-- the die on which the cell was put: the cell's x, and the seats with it
 pub record TookCell (p : Netlist) (die on : Die) (seats : List Seat) (segment : ℕ) (x : ℤ) (used : List ℤ) (lanes : LaneList) : Type 0 where
   pub x_is : x ≡ (seat_on p seats on segment).x
   pub holds_more : HoldsSeats p die (seats ++ seat_on p seats on segment ∷ []) used lanes
@@ -206,7 +207,7 @@ pub no_area : (p : Netlist) (die : Die) → area_on p die [] ≡ 0
 unfolding area_from
 no_area p die = refl
 
--- the next cell has its seat
+-- the areas and the segments are those of the seats once the next cell has its seat
 pub seated : (p : Netlist) (before mid now : Seating) (die : Die) (segment cell : ℕ) (x : ℤ) → IsSeating p before → IsTaken p before die segment x mid → cell ≡ length before.seats.items
     → now.caps ≡ with_area mid.caps die (area p cell die) → now.seats.items ≡ before.seats.items ++ seat_on p before.seats.items die segment ∷ []
     → now.top ≡ mid.top → now.bottom ≡ mid.bottom → IsSeating p now
@@ -240,7 +241,7 @@ seated p before mid now die segment cell x is taken last caps_are seats_are top_
     bottom_is_area Top same =
         ap (λ held. held.bottom) same ∙ is.bottom_area ∙ sym (area_apart p Bottom before.seats.items (seat_on p before.seats.items Top segment) refl)
 
--- the next seat
+-- the next seat is on the first die where a segment has room, else on the other die
 pub next_on_first : (p : Netlist) (first : Die) (seats : List Seat) (cell segment : ℕ) → cell ≡ length seats → first_room p seats cell first ≡ Some segment
     → next_seat p first seats ≡ Some (seat_on p seats first segment)
 unfolding next_seat
@@ -261,7 +262,7 @@ next_nowhere p first seats cell last nothing none_there =
     ap (λ here. seat_of p seats first here (first_room p seats (length seats) (other_die first))) (ap (λ c. first_room p seats c first) (sym last) ∙ nothing)
     ∙ ap (λ there. seat_of p seats first None there) (ap (λ c. first_room p seats c (other_die first)) (sym last) ∙ none_there)
 
--- one step of filling
+-- the first fit goes on behind the next cell's seat, and stops where it has none
 pub filled_next : (p : Netlist) (first : Die) (n m : ℕ) (seats : List Seat) (seat : Seat) → n ≡ suc m → next_seat p first seats ≡ Some seat
     → filled p first n seats ≡ filled p first m (seats ++ seat ∷ [])
 unfolding filled

@@ -1,4 +1,4 @@
--- Terminals are set net by net.
+-- Lemmas of terminals as they are set net by net.
 use Rattle.std.specs.Prelude.{◌≡◌, ℕ, zero, suc, ◌+◌, ◌<◌, ◌≤◌, Bool, true, false, if◌then◌else◌, List, length, get_or, set, replicate, Option, Some, None, ◌⊎◌}
 use Rattle.std.proofs.Common.{refl, sym, ap, subst, ◌∙◌, arith, inl, inr}
 use Rattle.std.proofs.lemmas.List.{length-set, length-replicate, get_or-set_same, get_or-set_other}
@@ -9,10 +9,10 @@ use Rattle.fp_base.specs.declared.ids.Point.{Point}
 use Rattle.fp_tech.specs.Slots.{Slots, slot_count, centre_of}
 use Rattle.fp_netlist.specs.Netlist.{Netlist}
 use Rattle.fp_place.specs.Cut.{is_cut, cut_below, cut}
+use Rattle.fp_place.specs.CutLaws.{cut_counted, cut_rises}
 use Rattle.fp_place.specs.Placed.{Placed}
 use Rattle.fp_score.specs.FirstFit.{terminal_of, fit_terminals}
-use Rattle.fp_seed.proofs.Filling.{cut_counted, cut_rises}
-use Rattle.fp_seed.proofs.Shelved.{get_or-alike}
+use Rattle.fp_seed.proofs.FilledSegmentLemmas.{get_or-alike}
 
 abbrev pub with_list : Placed → List (Option Point) → Placed
 with_list placed terminals = record placed { terminals = terminals }
@@ -92,12 +92,12 @@ set_all p grid dies before now net slot are all =
     are.rest_is ∙ ap (with_list before)
     (fill_by_all (terminal_of p grid dies) now.terminals (length p.nets) None are.many (λ k below. are.done k (omega arith)))
 
--- a cut net has a slot
+-- the slot of a cut net is one of the grid
 pub slot_there : (p : Netlist) (grid : Slots) (dies : List Die) (before now : Placed) (net slot : ℕ) → AreSet p grid dies before now net slot → net < length p.nets
     → is_cut p dies net ≡ true → cut p dies ≤ slot_count grid → slot < slot_count grid
 slot_there p grid dies before now net slot are below cut_net enough = omega (arith, are.slot_is, cut_rises p dies net (length p.nets) cut_net below)
 
--- a slot's number is small
+-- the number of a cut net's slot is at most that of the net
 cut_few : (p : Netlist) (dies : List Die) (net : ℕ) → cut_below p dies net ≤ net
 unfolding cut_below
 cut_few p dies zero = omega arith

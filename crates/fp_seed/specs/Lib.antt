@@ -1,6 +1,12 @@
 pub use Rattle.fp_score.specs.FirstFit
+pub mod FeasibleLaws
+pub mod FilledSegments
 pub mod Fits
+pub mod InOrderLaws
+pub mod LanesLaws
+pub mod RulesLaws
 pub mod Seats
 pub mod Seeded
 pub mod SeededLaws
-pub mod Shelved
+pub mod StandsLaws
+pub mod TerminalsLaws

@@ -1,4 +1,4 @@
--- The seats of the first cells, with the areas and the segments of both dies.
+-- The seats of the first cells, with the areas that they take and the segments of both dies.
 use Rattle.std.specs.Prelude.{◌≡◌, ℕ, Bool, true, false, List, [], ◌∷◌, ◌++◌, length, Option, Some, None, Ok, Err, ℤ}
 use Rattle.fp_base.specs.declared.ids.Die.{Die}
 use Rattle.fp_base.specs.declared.ids.Die.TheVariants.{Top, Bottom}
@@ -8,9 +8,9 @@ use Rattle.fp_place.specs.Areas.{area_on}
 use Rattle.fp_score.specs.declared.stop.Stop.TheVariants.{NoRoom}
 use Rattle.fp_score.specs.FirstFit.{Seat, seat_dies, seat_on, next_seat, filled}
 use Rattle.fp_seed.specs.declared.seating.Seating.{Seating}
-use Rattle.fp_seed.specs.Shelved.{IsReady, HoldsSeats}
+use Rattle.fp_seed.specs.FilledSegments.{IsReady, HoldsSeats}
 
--- areas and segments are those of the seats
+-- the areas and the segments are those of the seats
 pub record IsSeating (p : Netlist) (s : Seating) : Type 0 where
   pub top_area : s.caps.top ≡ area_on p Top (seat_dies s.seats.items)
   pub bottom_area : s.caps.bottom ≡ area_on p Bottom (seat_dies s.seats.items)

@@ -44,7 +44,7 @@ pub fn fit_with(alloc: Global, problem: &Problem, grid: &Grid, first: Die) -> Re
     Ok(Fit::Stands(placement))
 }
 
-// The dies of seats.
+// The die of each seat.
 fn dies_of(alloc: Global, seats: &[Seat]) -> Result<Vec<Die>, AllocError>
     ensures { IfOk result (λ dies. dies.items ≡ seat_dies seats.now) }
 {
@@ -71,7 +71,7 @@ fn laid(alloc: Global, problem: &Problem, seating: Seating) -> Result<Placement,
     Placement::build(alloc, problem, top, bottom, &xs)
 }
 
-// Gives the k-th cut net slot k.
+// Gives the k-th cut net, counted from 0 in file order, slot k.
 fn set_terminals(problem: &Problem, grid: &Grid, dies: &[Die], placement: &mut Placement)
     requires cells { length dies.now ≡ length problem.now.cells }
     requires slots { cut problem.now dies.now ≤ slot_count grid.now }

@@ -1,11 +1,11 @@
-//! The seed: a first fit of the cells over both dies.
+//! The seed: a legalization of the cells over both dies by first fit.
 #![tactic(auto)]
 
+mod filled_segments;
 mod fit;
 mod seat;
 mod seating;
 mod seeding;
-mod shelves;
 
 pub use seeding::{SeedFault, Seeded, seed};
 

@@ -1,4 +1,4 @@
-//! Where a cell sits.
+//! The seat of a cell: where the first fit puts it.
 
 use fp_base::Die;
 use std::alloc::AllocError;

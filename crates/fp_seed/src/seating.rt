@@ -1,12 +1,12 @@
-//! Cells are seated one after the other.
+//! The seats of the cells, which they get one after the other in file order.
 
 ghost use Rattle.std.specs.Prelude.{◌≡◌, ◌<◌, ◌++◌, ◌∷◌, [], IfOk, Some, length};
 ghost use Rattle.fp_netlist.specs.Netlist.{IsSound};
 ghost use Rattle.fp_score.specs.FirstFit.{seat_on, first_room};
 ghost use Rattle.fp_seed.specs.Seats.{IsSeating, IsTaken, Places, Fills};
 
+use crate::filled_segments::FilledSegments;
 use crate::seat::Seat;
-use crate::shelves::Shelves;
 use fp_base::{Bottom, CellId, Die, NoMemory, Top};
 use fp_netlist::Problem;
 use fp_place::{Caps, other};
@@ -17,18 +17,18 @@ use std::alloc::Global;
 pub struct Seating {
     pub seats: Vec<Seat>,
     pub caps: Caps,
-    pub top: Shelves<Top>,
-    pub bottom: Shelves<Bottom>,
+    pub top: FilledSegments<Top>,
+    pub bottom: FilledSegments<Bottom>,
 }
 
 impl Seating {
-    /// No cells.
+    /// The seats of no cells, with all segments free.
     pub fn new(alloc: Global, problem: &Problem) -> Result<Seating, NoMemory>
         ensures seating { IfOk result (IsSeating problem.now) }
         ensures empty { IfOk result (λ s. s.seats.items ≡ []) }
     {
-        let top = Shelves::new(alloc, problem)?;
-        let bottom = Shelves::new(alloc, problem)?;
+        let top = FilledSegments::new(alloc, problem)?;
+        let bottom = FilledSegments::new(alloc, problem)?;
         Ok(Seating {
             seats: Vec::new(alloc),
             caps: Caps::empty(),

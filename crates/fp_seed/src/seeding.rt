@@ -1,13 +1,16 @@
 //! The seed: of two first fits the one that stands.
 
-ghost use Rattle.std.specs.Prelude.{◌≡◌, Err, IfOk};
+ghost use Rattle.std.specs.Prelude.{◌≡◌, ◌≤◌, Err, IfOk};
 ghost use Rattle.fp_base.specs.declared.ids.Die.TheVariants as dies;
-ghost use Rattle.fp_tech.specs.Slots.{slot_count, IsGrid};
+ghost use Rattle.fp_tech.specs.Slots.{Slots, slot_count, IsGrid};
+ghost use Rattle.fp_place.specs.Blocks.{KeepsOffBlocks};
+ghost use Rattle.fp_place.specs.Cut.{cut};
 ghost use Rattle.fp_place.specs.Legal.{IsLegal};
 ghost use Rattle.fp_place.specs.Places.{dies_of};
 ghost use Rattle.fp_place.specs.Placed.{drawn_of, places_of, IsInOrder, IsPlacementOf};
+ghost use Rattle.fp_place.specs.Settled.{KeepRules};
 ghost use Rattle.fp_score.specs.FirstFit.{first_fit};
-ghost use Rattle.fp_score.specs.Terminals.{AreOnCuts};
+ghost use Rattle.fp_place.specs.OnSlots.{AreOnCuts};
 ghost use Rattle.fp_seed.specs.Seeded.{SeedGives};
 
 use crate::fit::{Fit, fit_with};
@@ -46,14 +49,19 @@ impl From<NoMemory> for SeedFault {
 }
 
 /// The seed of a problem: the first fit with the top die first, or, where that stops, the one with the bottom die first. Cells go in file
-/// order, each to the first segment that has room for it, and the k-th cut net takes slot k: our own rule. The placement is legal by the
-/// contest's rules. `Unfit` exactly where both first fits stop, and then for want of room or of slots, each told.
+/// order, each to the first segment that has room for it, and the k-th cut net, counted from 0, takes slot k: our own rule. The placement is
+/// legal by the contest's rules, and no cell overlaps a blockage of its die. `Unfit` exactly where both first fits stop, and then for want of
+/// room or of slots, each told.
 pub fn seed(alloc: Global, problem: &Problem) -> Result<Seeded, SeedFault>
     ensures seed { SeedGives problem.now result }
     ensures legal { IfOk result (λ s. IsLegal problem.now (drawn_of s.placement)) }
     ensures in_order { IfOk result (λ s. IsInOrder problem.now s.placement) }
     ensures of_problem { IfOk result (λ s. IsPlacementOf problem.now s.placement) }
     ensures on_cuts { IfOk result (λ s. AreOnCuts problem.now (dies_of (places_of s.placement)) s.placement.terminals) }
+    ensures rules { IfOk result (λ s. KeepRules problem.now (dies_of (places_of s.placement))) }
+    ensures slots { IfOk result (λ s. (grid : Slots) → IsGrid problem.now.plan.frame problem.now.plan.terminal grid
+        → cut problem.now (dies_of (places_of s.placement)) ≤ slot_count grid) }
+    ensures blocks { IfOk result (λ s. KeepsOffBlocks problem.now (drawn_of s.placement)) }
 {
     let grid = Grid::of(problem.dies());
     match fit_with(alloc, problem, &grid, Die::Top)? {
@@ -79,6 +87,10 @@ fn bottom_first(
     ensures in_order { IfOk result (λ s. IsInOrder problem.now s.placement) }
     ensures of_problem { IfOk result (λ s. IsPlacementOf problem.now s.placement) }
     ensures on_cuts { IfOk result (λ s. AreOnCuts problem.now (dies_of (places_of s.placement)) s.placement.terminals) }
+    ensures rules { IfOk result (λ s. KeepRules problem.now (dies_of (places_of s.placement))) }
+    ensures slots { IfOk result (λ s. (grid : Slots) → IsGrid problem.now.plan.frame problem.now.plan.terminal grid
+        → cut problem.now (dies_of (places_of s.placement)) ≤ slot_count grid) }
+    ensures blocks { IfOk result (λ s. KeepsOffBlocks problem.now (drawn_of s.placement)) }
 {
     match fit_with(alloc, problem, grid, Die::Bottom)? {
         Fit::Stands(placement) => Ok(Seeded {

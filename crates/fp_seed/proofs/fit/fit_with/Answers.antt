@@ -5,7 +5,7 @@ use Rattle.fp_place.specs.Cut.{cut}
 use Rattle.fp_score.specs.declared.stop.Stop.TheVariants.{NoSlots}
 use Rattle.fp_score.specs.FirstFit.{Seat, seat_dies, fit_terminals}
 use Rattle.fp_seed.specs.Seats.{Fills}
-use Rattle.fp_seed.proofs.Filling.{as_many_seats}
+use Rattle.fp_seed.specs.FeasibleLaws.{as_many_seats}
 use Rattle.fp_seed.proofs.Fitting.{stops_for_room, stops_for_slots, seats_on_dies, stands}
 use Rattle.fp_seed.proofs.Setting.{with_list}
 use Rattle.fp_seed.proofs.fit.fit_with.Goals as goal

@@ -1,6 +1,7 @@
 use Rattle.std.proofs.Common.{◌≡◌, map, ap, sym, subst, ◌∙◌}
 use Rattle.fp_score.specs.FirstFit.{Seat}
-use Rattle.fp_seed.proofs.Standing.{AreLanes, seating_lanes, stand_once, xs_in_range, laid_where_ok}
+use Rattle.fp_seed.specs.LanesLaws.{AreLanes, stand_once}
+use Rattle.fp_seed.proofs.Standing.{seating_lanes, xs_in_range, laid_where_ok}
 use Rattle.fp_seed.proofs.fit.laid.Goals as goal
 use Rattle.fp_seed.proofs.fit.laid.Goals.{After-deref-2}
 

@@ -2,7 +2,7 @@ use Rattle.std.proofs.Common.{ap, sym, subst, ◌∙◌}
 use Rattle.fp_base.specs.declared.ids.Die.TheVariants.{Top, Bottom}
 use Rattle.fp_place.specs.Areas.{area_on}
 use Rattle.fp_score.specs.FirstFit.{seat_dies}
-use Rattle.fp_seed.specs.Shelved.{HoldsSeats}
+use Rattle.fp_seed.specs.FilledSegments.{HoldsSeats}
 use Rattle.fp_seed.proofs.Seated.{no_area}
 use Rattle.fp_seed.proofs.seating.Seating.new.Goals as goal
 

@@ -1,8 +1,8 @@
 use Rattle.std.proofs.Common.{◌≡◌, [], length, replicate, pos, ap, sym, subst, arith, rules}
 use Rattle.fp_tech.specs.PlanLaws.{few_segments}
-use Rattle.fp_seed.specs.Shelved.{HoldsSeats}
-use Rattle.fp_seed.proofs.Shelved.{holds_none}
-use Rattle.fp_seed.proofs.shelves.Shelves.new.Goals as goal
+use Rattle.fp_seed.specs.FilledSegments.{HoldsSeats}
+use Rattle.fp_seed.proofs.FilledSegmentLemmas.{holds_none}
+use Rattle.fp_seed.proofs.filled_segments.FilledSegments.new.Goals as goal
 
 pub overflow_cast-segments : goal.overflow_cast-segments
 overflow_cast-segments g c =

@@ -1,4 +1,4 @@
-//! The segments of a die as cells are put on them.
+//! The segments of a die, as the first fit puts cells on them.
 
 ghost use Rattle.std.specs.Prelude.{◌≡◌, ℕ, ◌≤◌, ◌<◌, ◌++◌, ◌∷◌, [], IfOk, IsTrue, ◌&&◌, false, length, get_or, set, slice_index, pos, ◌+ℤ◌};
 ghost use Rattle.fp_tech.specs.Plan.{segments};
@@ -6,28 +6,28 @@ ghost use Rattle.fp_netlist.specs.Points.{width};
 ghost use Rattle.fp_place.specs.Areas.{fits};
 ghost use Rattle.fp_place.specs.Held.{has_room};
 ghost use Rattle.fp_score.specs.FirstFit.{segment_at};
-ghost use Rattle.fp_seed.specs.Shelved.{holds, room_in, IsReady, HoldsSeats};
+ghost use Rattle.fp_seed.specs.FilledSegments.{holds, room_in, IsReady, HoldsSeats};
 
 use fp_base::{CellId, Die, NoMemory, SegId, Side};
 use fp_netlist::Problem;
 use fp_place::{Caps, Lanes};
 use std::alloc::{AllocError, Global};
 
-/// As many numbers as library cells may have.
+/// The number of library cells is at most this.
 const LIBS: usize = 1 << 16;
 
 /// The segments of a die: the length of each that is used, the first that may still have room for each library cell, a number that only
 /// rises, and the cells on each segment in file order.
 #[derive(Drop)]
-pub struct Shelves<S: Side> {
+pub struct FilledSegments<S: Side> {
     used: Vec<i64>,
     first: Vec<u32>,
     lanes: Lanes<S>,
 }
 
-impl<S: Side> Shelves<S> {
-    /// The segments of the die without cells.
-    pub fn new(alloc: Global, problem: &Problem) -> Result<Shelves<S>, NoMemory>
+impl<S: Side> FilledSegments<S> {
+    /// The segments of the die, all of them free.
+    pub fn new(alloc: Global, problem: &Problem) -> Result<FilledSegments<S>, NoMemory>
         ensures ready { IfOk result (λ s. IsReady problem.now S.DIE s.used.items s.first.items s.lanes) }
         ensures empty { IfOk result (λ s. HoldsSeats problem.now S.DIE [] s.used.items s.lanes) }
     {
@@ -35,7 +35,7 @@ impl<S: Side> Shelves<S> {
         let used = vec![in alloc; 0; segments]?;
         let first = zeros(alloc, LIBS)?;
         let lanes = Lanes::new(alloc, segments as u32)?;
-        Ok(Shelves { used, first, lanes })
+        Ok(FilledSegments { used, first, lanes })
     }
 
     // Whether the free length of a segment holds the cell.
@@ -108,7 +108,7 @@ impl<S: Side> Shelves<S> {
         Ok(start + before)
     }
 
-    /// The cells on each segment.
+    /// The cells on each segment, in file order.
     pub fn into_lanes(self) -> Lanes<S>
         ensures { result ≡ self.lanes }
     {
@@ -125,7 +125,7 @@ fn takes(problem: &Problem, caps: &Caps, cell: CellId, die: Die) -> bool
     problem.height(cell, die) <= i64::from(rows) && caps.room(problem, cell, die)
 }
 
-// So many zeros.
+// A list of so many zeros.
 fn zeros(alloc: Global, count: usize) -> Result<Vec<u32>, AllocError>
     ensures many { IfOk result (λ v. length v.items ≡ count) }
     ensures all { IfOk result (λ v. (k : ℕ) → slice_index v.items k ≡ 0) }

@@ -5,18 +5,18 @@ use Rattle.fp_tech.specs.Plan.{segments}
 use Rattle.fp_netlist.specs.Netlist.{lib_of}
 use Rattle.fp_place.specs.Areas.{fits}
 use Rattle.fp_place.specs.Held.{has_room}
-use Rattle.fp_seed.specs.Shelved.{holds, IsReady}
-use Rattle.fp_seed.proofs.Shelved.{room_is, not_taken, ready_found}
-use Rattle.fp_seed.proofs.shelves.Shelves.find.Goals as goal
-use Rattle.fp_seed.proofs.shelves.Shelves.find.Goals.{After-then_some}
-use Rattle.fp_seed.proofs.shelves.Shelves.find.Given as given
+use Rattle.fp_seed.specs.FilledSegments.{holds, IsReady}
+use Rattle.fp_seed.proofs.FilledSegmentLemmas.{room_is, not_taken, ready_found}
+use Rattle.fp_seed.proofs.filled_segments.FilledSegments.find.Goals as goal
+use Rattle.fp_seed.proofs.filled_segments.FilledSegments.find.Goals.{After-then_some}
+use Rattle.fp_seed.proofs.filled_segments.FilledSegments.find.Given as given
 
 pub returns-then-not-takes-clause-room : goal.returns-then-not-takes-clause-room
 returns-then-not-takes-clause-room g c =
     not_taken c.args.problem.now c.args.caps.now g.S.Side.DIE c.args.self.now.used.items c.args.cell.0
     (ap (λ die. fits c.args.problem.now c.args.cell.0 die && has_room c.args.problem.now c.args.caps.now c.args.cell.0 die) (sym c.DIE.ensures) ∙ sym c.if-not-takes.ensures)
 
--- where the search went on from
+-- the search begins at the library cell's first segment that may have room
 from_is : (g : given.Over) (c : After-then_some g) → c.index.result.now ≡ get_or c.args.self.now.first.items (lib_of c.args.problem.now c.args.cell.0) 0
 from_is g c =
     get_or_read c.args.self.now.first.items c.lib_of-lib.result.0 c.index.result.now (omega (arith, c.lib_of-lib.ensures.small, c.requires.ready.libs)) c.index.ensures 0

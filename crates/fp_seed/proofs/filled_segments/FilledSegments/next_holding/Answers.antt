@@ -1,6 +1,6 @@
 use Rattle.std.proofs.Common.{length, ap, arith}
 use Rattle.fp_tech.specs.PlanLaws.{few_segments}
-use Rattle.fp_seed.proofs.shelves.Shelves.next_holding.Goals as goal
+use Rattle.fp_seed.proofs.filled_segments.FilledSegments.next_holding.Goals as goal
 
 pub overflow_cast-count : goal.overflow_cast-count
 overflow_cast-count g c =

@@ -4,10 +4,10 @@ use Rattle.std.proofs.lemmas.Int.{ints}
 use Rattle.fp_tech.specs.Plan.{IsPlan, segments}
 use Rattle.fp_netlist.specs.Points.{width}
 use Rattle.fp_score.specs.FirstFit.{no_segment, segment_at}
-use Rattle.fp_seed.proofs.Shelved.{IsRoom, room_at, ready_taken}
-use Rattle.fp_seed.proofs.shelves.Shelves.take.Goals as goal
-use Rattle.fp_seed.proofs.shelves.Shelves.take.Goals.{After-self-1}
-use Rattle.fp_seed.proofs.shelves.Shelves.take.Given as given
+use Rattle.fp_seed.proofs.FilledSegmentLemmas.{IsRoom, room_at, ready_taken}
+use Rattle.fp_seed.proofs.filled_segments.FilledSegments.take.Goals as goal
+use Rattle.fp_seed.proofs.filled_segments.FilledSegments.take.Goals.{After-self-1}
+use Rattle.fp_seed.proofs.filled_segments.FilledSegments.take.Given as given
 
 room : (g : given.Over) (c : After-self-1 g) → IsRoom c.args.problem.now g.S.Side.DIE c.args.self.now.used.items c.args.cell.0 c.args.segment
 room g c =
@@ -29,18 +29,18 @@ pub overflow_add-result : goal.overflow_add-result
 overflow_add-result g c =
     let r = room g c in
     let start = ap (λ s. s.start) (segment_is g c) in
-    omega (arith, ints, r.low, r.lies.start, r.lies.some_length, r.lies.ends, r.ends, before_is g c, start)
+    omega (arith, ints, r.low, r.lies.start.least, r.lies.start.most, r.lies.end.most, r.ends, before_is g c, start)
 
 pub returns-clause-x : goal.returns-clause-x
 returns-clause-x g c =
     let r = room g c in
     let start = ap (λ s. s.start) (segment_is g c) in
-    omega (arith, ints, r.low, r.lies.start, r.lies.some_length, r.lies.ends, r.ends, before_is g c, start)
+    omega (arith, ints, r.low, r.lies.start.least, r.lies.start.most, r.lies.end.most, r.ends, before_is g c, start)
 
 pub returns-clause-ready : goal.returns-clause-ready
 returns-clause-ready g c =
     let r = room g c in
     ready_taken c.args.problem.now g.S.Side.DIE c.args.self.now.used.items c.args.self.now.first.items c.args.self.now.lanes c.push.new.self c.args.segment c.args.cell _
     (subst IsPlan c.dies.ensures c.segments.ensures.plan) c.requires.ready c.requires.within c.requires.room
-    (omega (arith, ints, r.low, r.lies.start, r.lies.some_length, r.lies.ends, r.ends, before_is g c, width_is g c))
+    (omega (arith, ints, r.low, r.lies.start.least, r.lies.start.most, r.lies.end.most, r.ends, before_is g c, width_is g c))
     (c.in_ok-push.ensures ∙ ap (λ seg. set c.args.self.now.lanes seg (get_or c.args.self.now.lanes seg [] ++ c.args.cell ∷ [])) c.new.ensures)

@@ -1,64 +1,30 @@
--- The segments of a die, step by step.
-use Rattle.std.specs.Prelude.{◌≡◌, ℕ, zero, suc, ◌+◌, ◌*◌, ◌<◌, ◌≤◌, ◌^◌, Bool, true, false, ◌&&◌, nat_lt, nat_le, int_le, if◌then◌else◌, cond, List, [], ◌∷◌, ◌++◌, length, get_or, set, replicate, Some, None, ℤ, pos, ◌+ℤ◌, ◌≤ℤ◌, ◌⊎◌, unwrap_or}
+-- Lemmas of a die's segments as cells are put on them.
+use Rattle.std.specs.Prelude.{◌≡◌, ℕ, zero, suc, ◌+◌, ◌<◌, ◌≤◌, ◌^◌, Bool, true, false, ◌&&◌, nat_lt, int_le, if◌then◌else◌, cond, List, [], ◌∷◌, ◌++◌, length, get_or, set, replicate, Some, None, ℤ, pos, ◌+ℤ◌, ◌≤ℤ◌, ◌⊎◌, unwrap_or}
 use Rattle.std.proofs.Common.{refl, sym, ap, subst, ◌∙◌, arith, inl, inr}
 use Rattle.std.proofs.lemmas.List.{get_or-replicate, length-replicate, length-set, get_or-set_same, get_or-set_other, get_or_past}
-use Rattle.std.proofs.lemmas.Bool.{leb-true, and_parts, cases_lt, cases_eq, false_from_ne_true}
+use Rattle.std.proofs.lemmas.Bool.{cases_lt, cases_eq, false_from_ne_true}
 use Rattle.std.proofs.lemmas.Bool.Decides.{nat_tests}
-use Rattle.std.proofs.lemmas.Option.{get_or_from_slice_get}
+use Rattle.std.proofs.lemmas.Option.{slice_get-get_or}
 use Rattle.std.proofs.lemmas.Int.{ints}
-use Rattle.std.proofs.lemmas.Nat.{mul-le}
 use Rattle.fp_base.specs.declared.ids.Die.{Die}
-use Rattle.fp_base.specs.declared.ids.Die.TheVariants.{Top, Bottom}
 use Rattle.fp_base.specs.declared.ids.CellId.{CellId}
-use Rattle.fp_tech.specs.declared.dies.Frame.{Frame}
-use Rattle.fp_tech.specs.declared.dies.DieSpec.{DieSpec}
-use Rattle.fp_tech.specs.declared.dies.Segment.{Segment}
-use Rattle.fp_tech.specs.Plan.{Plan, IsPlan, IsFrame, IsDieSpec, rows_lie, row_at, spec_of, segments}
-use Rattle.fp_tech.specs.PlanLaws.{length-segments}
-use Rattle.fp_tech.specs.PlanLaws as plan_laws
+use Rattle.fp_tech.specs.Plan.{Plan, IsPlan, segments}
 use Rattle.fp_netlist.specs.Netlist.{Netlist, lib_of, lib_at, ids_where}
 use Rattle.fp_netlist.specs.Points.{no_lib, width, lib_on}
 use Rattle.fp_place.specs.Areas.{fits}
 use Rattle.fp_place.specs.Held.{Held, has_room}
 use Rattle.fp_place.specs.Placed.{LaneList}
+use Rattle.fp_place.specs.PlacedLaws.{LiesInRange, segment_in_range}
 use Rattle.fp_score.specs.FirstFit.{no_segment, segment_at, sitters, used_from, first_from}
-use Rattle.fp_seed.specs.Shelved.{holds, room_in, IsReady, HoldsSeats}
+use Rattle.fp_seed.specs.FilledSegments.{holds, room_in, IsReady, HoldsSeats}
+use Rattle.fp_seed.specs.FeasibleLaws.{at_most}
 
--- a segment lies in the frame
-pub record IsInFrame (s : Segment) : Type 0 where
-  pub start : pos 0 ≤ℤ s.start
-  pub some_length : pos 0 ≤ℤ s.length
-  pub ends : (s.start +ℤ s.length) ≤ℤ pos (2 ^ 30)
-  pub low : pos 0 ≤ℤ s.y
-  pub high : s.y ≤ℤ pos (2 ^ 30)
+-- a segment by its number lies in range
+pub segment_lies : (plan : Plan) (die : Die) (number : ℕ) → IsPlan plan → number < length (segments plan die) → LiesInRange (segment_at plan die number)
+segment_lies plan die number is below =
+    segment_in_range plan is die number (segment_at plan die number) (slice_get-get_or (segments plan die) number no_segment below)
 
-row_in_frame : (frame : Frame) (techs : ℕ) (spec : DieSpec) (i : ℕ) → IsFrame frame → IsDieSpec techs spec → rows_lie frame spec ≡ true → i < spec.repeat → IsInFrame (row_at spec i)
-row_in_frame frame techs spec i is_frame is lies below =
-    let a = and_parts (nat_le frame.llx spec.start_x) (nat_le (spec.start_x + spec.length) frame.urx && (nat_le frame.lly spec.start_y && nat_le (spec.start_y + spec.height * spec.repeat) frame.ury)) lies in
-    let b = and_parts (nat_le (spec.start_x + spec.length) frame.urx) (nat_le frame.lly spec.start_y && nat_le (spec.start_y + spec.height * spec.repeat) frame.ury) a.1 in
-    let c = and_parts (nat_le frame.lly spec.start_y) (nat_le (spec.start_y + spec.height * spec.repeat) frame.ury) b.1 in
-    let wide : spec.start_x + spec.length ≤ frame.urx = leb-true (spec.start_x + spec.length) frame.urx b.0 in
-    let tall : spec.start_y + spec.height * spec.repeat ≤ frame.ury = leb-true (spec.start_y + spec.height * spec.repeat) frame.ury c.1 in
-    let up : i * spec.height ≤ spec.repeat * spec.height = mul-le i spec.height spec.repeat spec.height (omega arith) (omega arith) in
-    record {
-      start = omega (arith, ints);
-      some_length = omega (arith, ints);
-      ends = omega (arith, ints, wide, is_frame.right);
-      low = omega (arith, ints);
-      high = omega (arith, ints, up, tall, is_frame.upper);
-    }
-
-pub segment_in_frame : (plan : Plan) (die : Die) (i : ℕ) → IsPlan plan → i < length (segments plan die) → IsInFrame (segment_at plan die i)
-segment_in_frame plan die i is below =
-    let row : i < (spec_of plan die).repeat = omega (arith, below, length-segments plan die) in
-    subst IsInFrame (sym (get_or_from_slice_get (segments plan die) i (row_at (spec_of plan die) i) no_segment (plan_laws.segment_at plan die i row)))
-    (by die row)
-  where
-    by : (d : Die) → i < (spec_of plan d).repeat → IsInFrame (row_at (spec_of plan d) i)
-    by Top row = row_in_frame plan.frame (length plan.book.techs) plan.top i is.setup.frame is.setup.top is.top_lies row
-    by Bottom row = row_in_frame plan.frame (length plan.book.techs) plan.bottom i is.setup.frame is.setup.bottom is.bottom_lies row
-
--- a list of one value
+-- each element of a list of one value is that value
 pub get_or-alike : {A : Type 0} (n i : ℕ) (a : A) → get_or (replicate n a) i a ≡ a
 get_or-alike n i a = by (cases_lt i n)
   where
@@ -66,7 +32,7 @@ get_or-alike n i a = by (cases_lt i n)
     by (inl below) = get_or-replicate n i a a below
     by (inr past) = get_or_past (replicate n a) i a (omega (arith, length-replicate n a))
 
--- no cells
+-- before any cell is put on a segment all lengths are 0, and no segment was passed
 pub ready_none : (p : Netlist) (die : Die) (n : ℕ) (first : List ℕ) → n ≡ length (segments p.plan die) → length first ≡ 2 ^ 16 → ((k : ℕ) → get_or first k 0 ≡ 0)
     → IsReady p die (replicate n (pos 0)) first (replicate n [])
 ready_none p die n first many libs zeros = record {
@@ -91,7 +57,7 @@ unfolding holds lib_on
 held_alike p die used a b s same =
     ap (λ lib. int_le (get_or used s (pos 0) +ℤ pos (unwrap_or (lib_at p lib die) no_lib).width) (segment_at p.plan die s).length) same
 
--- a cell's library cell has passed more segments
+-- a search that found a segment passes those before it for each cell of the library cell
 pub ready_found : (p : Netlist) (die : Die) (used : List ℤ) (first : List ℕ) (lanes : LaneList) (cell next : ℕ) → IsReady p die used first lanes
     → lib_of p cell < 2 ^ 16 → ((s : ℕ) → get_or first (lib_of p cell) 0 ≤ s → s < next → holds p die used cell s ≡ false) → cell < length p.cells
     → IsReady p die used (set first (lib_of p cell) next) lanes
@@ -117,7 +83,7 @@ ready_found p die used first lanes cell next is small too_full cell_in = record 
     by other other_in s before (inr differs) =
         is.passed other other_in s (omega (arith, before, get_or-set_other first (lib_of p cell) (lib_of p other) next 0 differs))
 
--- the first number that passes
+-- where a search stops is the first number that passes
 first_is : (test : ℕ → Bool) (n i result : ℕ) → i ≤ result → ((s : ℕ) → i ≤ s → s < result → test s ≡ false) → (result < i + n → test result ≡ true)
     → result ≤ i + n → first_from test i n ≡ cond (nat_lt result (i + n)) (Some result) None
 unfolding first_from
@@ -163,9 +129,6 @@ not_taken p held die used cell takes = sym (ap (λ b. if b then first_from (hold
 abbrev pub longer : Netlist → Die → List ℤ → ℕ → ℕ → List ℤ
 longer p die used cell segment = set used segment (get_or used segment (pos 0) +ℤ pos (width p cell die))
 
-pub in_order : (a b : ℤ) → int_le a b ≡ true → a ≤ℤ b
-in_order a b h = grind (arith, ints)
-
 -- what is held behind more is held behind less
 held_before : (width : ℕ) (long u v : ℤ) → int_le (v +ℤ pos width) long ≡ true → u ≤ℤ v → int_le (u +ℤ pos width) long ≡ true
 held_before width long u v h le = grind (arith, ints)
@@ -200,11 +163,11 @@ ready_longer p die used first lanes segment cell plan is within room = record {
   where
     top : (s : ℕ) → (s ≡ segment) ⊎ (s ≡ segment → ⊥) → get_or (longer p die used cell.0 segment) s (pos 0) ≤ℤ pos (2 ^ 30)
     top s (inl same) =
-        let lies = segment_in_frame p.plan die segment plan within in
-        let ends : (get_or used segment (pos 0) +ℤ pos (width p cell.0 die)) ≤ℤ (segment_at p.plan die segment).length = in_order (get_or used segment (pos 0) +ℤ pos (width p cell.0 die)) (segment_at p.plan die segment).length room in
+        let lies = segment_lies p.plan die segment plan within in
+        let ends : (get_or used segment (pos 0) +ℤ pos (width p cell.0 die)) ≤ℤ (segment_at p.plan die segment).length = at_most (get_or used segment (pos 0) +ℤ pos (width p cell.0 die)) (segment_at p.plan die segment).length room in
         subst (λ j. get_or (longer p die used cell.0 segment) j (pos 0) ≤ℤ pos (2 ^ 30)) (sym same)
         (subst (λ u. u ≤ℤ pos (2 ^ 30)) (sym (get_or-set_same used segment (get_or used segment (pos 0) +ℤ pos (width p cell.0 die)) (pos 0) (omega (arith, is.many))))
-        (omega (arith, ints, ends, lies.start, lies.ends)))
+        (omega (arith, ints, ends, lies.length.most)))
     top s (inr other) =
         subst (λ u. u ≤ℤ pos (2 ^ 30)) (sym (get_or-set_other used segment s (get_or used segment (pos 0) +ℤ pos (width p cell.0 die)) (pos 0) other)) (is.high s)
 
@@ -216,17 +179,17 @@ ready_taken p die used first lanes more segment cell sum plan is within room is_
     subst (λ u. IsReady p die (set used segment u) first more) (sym is_sum)
     (subst (IsReady p die (longer p die used cell.0 segment) first) (sym is_more) (ready_longer p die used first lanes segment cell plan is within room))
 
--- the test of the code
+-- the sum that the code compares with a segment's length says whether the segment holds a cell
 pub holds_is : (p : Netlist) (die : Die) (used : List ℤ) (cell segment : ℕ) (sum long : ℤ) → sum ≡ get_or used segment (pos 0) +ℤ pos (width p cell die)
     → long ≡ (segment_at p.plan die segment).length → int_le sum long ≡ holds p die used cell segment
 unfolding holds
 holds_is p die used cell segment sum long is_sum is_long =
     ap (λ s. int_le s long) is_sum ∙ ap (λ l. int_le (get_or used segment (pos 0) +ℤ pos (width p cell die)) l) is_long
 
--- where a cell is put
+-- a cell that is put on a segment ends within it, and the segment lies in range
 pub record IsRoom (p : Netlist) (die : Die) (used : List ℤ) (cell segment : ℕ) : Type 0 where
   pub low : pos 0 ≤ℤ get_or used segment (pos 0)
-  pub lies : IsInFrame (segment_at p.plan die segment)
+  pub lies : LiesInRange (segment_at p.plan die segment)
   pub ends : (get_or used segment (pos 0) +ℤ pos (width p cell die)) ≤ℤ (segment_at p.plan die segment).length
 
 pub room_at : (p : Netlist) (die : Die) (used : List ℤ) (first : List ℕ) (lanes : LaneList) (cell segment : ℕ) → IsPlan p.plan
@@ -234,16 +197,16 @@ pub room_at : (p : Netlist) (die : Die) (used : List ℤ) (first : List ℕ) (la
 unfolding holds
 room_at p die used first lanes cell segment plan is within room = record {
   low = is.low segment;
-  lies = segment_in_frame p.plan die segment plan within;
-  ends = in_order (get_or used segment (pos 0) +ℤ pos (width p cell die)) (segment_at p.plan die segment).length room;
+  lies = segment_lies p.plan die segment plan within;
+  ends = at_most (get_or used segment (pos 0) +ℤ pos (width p cell die)) (segment_at p.plan die segment).length room;
 }
 
--- a width is small
+-- the used length of a segment is from 0 to 2^30, and the segment lies in range
 pub record IsSmall (p : Netlist) (die : Die) (used : List ℤ) (segment : ℕ) : Type 0 where
   pub low : pos 0 ≤ℤ get_or used segment (pos 0)
   pub high : get_or used segment (pos 0) ≤ℤ pos (2 ^ 30)
-  pub lies : IsInFrame (segment_at p.plan die segment)
+  pub lies : LiesInRange (segment_at p.plan die segment)
 
 pub small_at : (p : Netlist) (die : Die) (used : List ℤ) (first : List ℕ) (lanes : LaneList) (segment : ℕ) → IsPlan p.plan
     → IsReady p die used first lanes → segment < length (segments p.plan die) → IsSmall p die used segment
-small_at p die used first lanes segment plan is within = record { low = is.low segment; high = is.high segment; lies = segment_in_frame p.plan die segment plan within }
+small_at p die used first lanes segment plan is within = record { low = is.low segment; high = is.high segment; lies = segment_lies p.plan die segment plan within }

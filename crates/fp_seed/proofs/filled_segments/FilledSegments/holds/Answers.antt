@@ -4,8 +4,8 @@ use Rattle.std.proofs.lemmas.Int.{ints}
 use Rattle.fp_tech.specs.Plan.{IsPlan, segments}
 use Rattle.fp_netlist.specs.Points.{width}
 use Rattle.fp_score.specs.FirstFit.{no_segment, segment_at}
-use Rattle.fp_seed.proofs.Shelved.{small_at, holds_is}
-use Rattle.fp_seed.proofs.shelves.Shelves.holds.Goals as goal
+use Rattle.fp_seed.proofs.FilledSegmentLemmas.{small_at, holds_is}
+use Rattle.fp_seed.proofs.filled_segments.FilledSegments.holds.Goals as goal
 
 pub returns : goal.returns
 returns g c =
@@ -22,4 +22,4 @@ returns g c =
     (to_z w64 (of_z w64 (to_z w64 (of_z w64 c.index.result.now) +ℤ to_z w64 (of_z w64 c.width.result))))
     (to_z w64 (of_z w64 (get_or c.segments-segments.result.now c.args.segment no_segment).length))
     (omega (arith, ints, small.low, small.high, before, wide, c.width.ensures.range.0, c.width.ensures.range.1))
-    (omega (arith, ints, long, small.lies.start, small.lies.some_length, small.lies.ends))
+    (omega (arith, ints, long, small.lies.length.least, small.lies.length.most))
