@@ -1,14 +1,14 @@
 -- The best so far, as a search goes up and then down.
-use Rattle.std.specs.Prelude.{◌≡◌, ℕ, ◌+◌, ◌<◌, ◌≤◌, Bool, true, false, nat_lt, nat_le, if◌then◌else◌, Option, Some, None, IsTrue, ◌⊎◌, ℤ, ◌≤ℤ◌, ◌-ℤ◌, ◌+ℤ◌, int_le, unsigned_abs, List, length, get_or, pos}
-use Rattle.std.proofs.Common.{zero, suc, refl, sym, ap, subst, ◌∙◌, arith, cond, inl, inr}
+use Rattle.std.specs.Prelude.{◌≡◌, ℕ, ◌+◌, ◌<◌, ◌≤◌, Bool, true, false, nat_lt, nat_le, if◌then◌else◌, Option, Some, None, IsTrue, ◌⊎◌, ℤ, ◌≤ℤ◌, ◌-ℤ◌, unsigned_abs, List, length}
+use Rattle.std.proofs.Common.{refl, sym, ap, subst, ◌∙◌, arith, inl, inr}
 use Rattle.std.proofs.lemmas.Bool.{cases_lt}
 use Rattle.std.proofs.lemmas.Bool.Decides.{nat_tests}
 use Rattle.std.proofs.lemmas.Int.{ints}
 use Rattle.fp_tech.specs.declared.dies.Segment.{Segment}
 use Rattle.fp_coarse.specs.declared.nearest.Found.{Found}
 use Rattle.fp_coarse.specs.declared.nearest.Aim.{Aim}
-use Rattle.fp_coarse.specs.Nearest.{IsLeast, IsFound, IsBest, is_beaten, is_passed, earlier, later, at, rise_to, reach_to, cost_at, cost_of, CanSearch, IsBestOf}
-use Rattle.fp_coarse.specs.Rooms.{has_free, AreShut}
+use Rattle.fp_coarse.specs.Nearest.{IsFound, IsBest, is_beaten, is_passed, earlier, later, at, rise_to, reach_to, cost_at, cost_of, CanSearch}
+use Rattle.fp_coarse.specs.Rooms.{has_free}
 
 passes_not : (passes : ℕ → Bool) (n : ℕ) → passes n ≡ false → IsTrue (passes n) → ⊥
 passes_not passes n fails holds = let nothing : true ≡ false = sym holds ∙ fails in cc

@@ -1,11 +1,10 @@
 -- The first of least cost: it is that, and it is one number alone.
-use Rattle.std.specs.Prelude.{◌≡◌, ℕ, ◌+◌, ◌<◌, ◌≤◌, Bool, true, false, ◌&&◌, nat_lt, if◌then◌else◌, Option, Some, None, MatchOption, IsTrue, ◌⊎◌}
-use Rattle.std.proofs.Common.{zero, suc, refl, sym, ap, subst, ◌∙◌, arith, cond, inl, inr, add-one}
-use Rattle.std.proofs.lemmas.Bool.{cases_eq, cases_lt}
-use Rattle.std.proofs.lemmas.Bool.Decides.{nat_tests}
+use Rattle.std.specs.Prelude.{◌≡◌, ℕ, ◌<◌, ◌≤◌, Bool, true, false, Option, Some, None, MatchOption, IsTrue, ◌⊎◌}
+use Rattle.std.proofs.Common.{refl, sym, ap, ◌∙◌, arith, inl, inr}
+use Rattle.std.proofs.lemmas.Bool.{cases_lt}
 use Rattle.fp_place.specs.FirstLeast.{IsFirstLeast, NonePasses, first_least_is}
 use Rattle.fp_place.specs.Settled.{first_least}
-use Rattle.fp_coarse.specs.Nearest.{IsLeast, IsLeastOrNone}
+use Rattle.fp_coarse.specs.Nearest.{IsLeastOrNone}
 
 passes_not : (passes : ℕ → Bool) (n : ℕ) → passes n ≡ false → IsTrue (passes n) → ⊥
 passes_not passes n fails holds = let nothing : true ≡ false = sym holds ∙ fails in cc

@@ -1,7 +1,7 @@
 -- What the lanes of a pick hold.
-use Rattle.std.specs.Prelude.{◌≡◌, ℕ, ◌+◌, ◌<◌, ◌≤◌, Bool, true, false, nat_eq, if◌then◌else◌, List, [], ◌∷◌, ◌++◌, length, map, filter, All, get_or, Option, Some, None, slice_get, Result, Ok, Err, IsTrue, ◌⊎◌, ℤ, pos, ◌-ℤ◌, ◌≤ℤ◌, int_le}
+use Rattle.std.specs.Prelude.{◌≡◌, ℕ, ◌+◌, ◌<◌, ◌≤◌, Bool, true, false, nat_eq, if◌then◌else◌, List, [], ◌∷◌, ◌++◌, length, map, filter, All, get_or, Option, Some, None, slice_get, Result, Ok, Err, IsTrue, ◌⊎◌, pos, ◌-ℤ◌, ◌≤ℤ◌}
 use Rattle.std.specs.Option.{option_and_then}
-use Rattle.std.specs.List.{sum_by, range_with_len}
+use Rattle.std.specs.List.{sum_by}
 use Rattle.std.proofs.Common.{refl, sym, ap, subst, ◌∙◌, arith, cond, inl, inr}
 use Rattle.std.proofs.lemmas.Bool.{cases_eq, cases_lt, eq-eqb}
 use Rattle.std.proofs.lemmas.Bool.Decides.{nat_tests}
@@ -19,12 +19,12 @@ use Rattle.fp_tech.specs.Plan.{segments}
 use Rattle.fp_netlist.specs.Netlist.{Netlist}
 use Rattle.fp_netlist.specs.Points.{width}
 use Rattle.fp_place.specs.Places.{die_at, same_die}
-use Rattle.fp_place.specs.Placed.{LaneList, lanes_on, entry_at, StandOnce}
+use Rattle.fp_place.specs.Placed.{lanes_on, entry_at}
 use Rattle.fp_score.specs.FirstFit.{segment_at}
 use Rattle.fp_score.specs.Pick.{Taken, sorted_by, taken_width, is_open, reach_cost, point_at, nearest_open, or_no_row, taken_by, cells_on, widest_first, pick_on, in_order, lanes_by}
 use Rattle.fp_coarse.specs.Nearest.{AreSegments, IsLeastOrNone}
 use Rattle.fp_coarse.specs.Picking.{HoldAll, lane_width}
-use Rattle.fp_coarse.proofs.Counting.{same, same_other, count, counts_at, stands_in, one_place, range_most, range_holds, range_passes, segment_of, counts_on, counts_all, sum_most, counts_there, counts_once}
+use Rattle.fp_coarse.proofs.Counting.{same, same_other, count, counts_at, stands_in, one_place, range_most, range_holds, range_passes, segment_of, counts_all, sum_most, counts_there, counts_once}
 use Rattle.fp_coarse.proofs.Firsts.{least_is}
 use Rattle.fp_coarse.proofs.Sorting.{sort_sum, sum_by-map, sum_by-filter}
 

@@ -1,8 +1,8 @@
 -- The hull of segments, and where rows begin.
-use Rattle.std.specs.Prelude.{◌≡◌, ℕ, ◌+◌, ◌<◌, ◌≤◌, ◌^◌, Bool, true, false, List, length, get_or, IsTrue, ◌⊎◌, ℤ, pos, ◌+ℤ◌, ◌-ℤ◌, ◌≤ℤ◌, int_le, int_lt, unsigned_abs}
+use Rattle.std.specs.Prelude.{◌≡◌, ℕ, ◌+◌, ◌<◌, ◌≤◌, ◌^◌, true, false, List, length, get_or, IsTrue, ◌⊎◌, ℤ, pos, ◌+ℤ◌, ◌-ℤ◌, ◌≤ℤ◌, int_lt}
 use Rattle.std.specs.Int.{int_min, int_max}
 use Rattle.std.specs.List.Sorted.{IsPartitionedBy}
-use Rattle.std.proofs.Common.{to_z, of_z, w64, refl, sym, ap, subst, ◌∙◌, arith, inl, inr}
+use Rattle.std.proofs.Common.{to_z, of_z, w64, sym, ap, subst, arith, inl, inr}
 use Rattle.std.proofs.lemmas.Bool.{cases_lt}
 use Rattle.std.proofs.lemmas.Int.{ints, to_z-of_z, fits_signed_from_abs}
 use Rattle.std.proofs.lemmas.List.{get_or_default}
@@ -13,7 +13,7 @@ use Rattle.fp_score.specs.Pick.{distance_to}
 use Rattle.fp_coarse.specs.declared.nearest.Hull.{Hull}
 use Rattle.fp_coarse.specs.declared.nearest.Aim.{Aim}
 use Rattle.fp_coarse.specs.Rooms.{has_free, AreRooms}
-use Rattle.fp_coarse.specs.Nearest.{at, IsSegment, AreSegments, IsHullBelow, IsHull, AreFree, IsAim, IsNear, IsNearPoint, reach_to, CanSearch}
+use Rattle.fp_coarse.specs.Nearest.{at, IsSegment, AreSegments, IsHullBelow, IsHull, AreFree, IsNearPoint, reach_to, CanSearch}
 
 pub hull_more : (segments : List Segment) (count : ℕ) (hull new : Hull) → IsHullBelow segments count hull → IsSegment (at segments count)
     → new.low ≡ int_min hull.low (at segments count).start → new.high ≡ int_max hull.high ((at segments count).start +ℤ (at segments count).length)

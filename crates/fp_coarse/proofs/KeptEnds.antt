@@ -1,5 +1,5 @@
 -- What is kept of a net's pins, pin by pin, and the breakpoints that it gives, connection by connection.
-use Rattle.std.proofs.Common.{◌≡◌, ℕ, Bool, true, false, cond, List, [], ◌∷◌, ◌++◌, map, Option, Some, None, refl, sym, ap, ◌∙◌, ℤ, neg_ℤ, ◌-ℤ◌, append_assoc, arith}
+use Rattle.std.proofs.Common.{◌≡◌, ℕ, zero, suc, ◌<◌, Bool, true, false, cond, List, [], ◌∷◌, ◌++◌, length, get_or, map, Option, Some, None, refl, sym, ap, ◌∙◌, ℤ, neg_ℤ, ◌-ℤ◌, append_assoc, arith}
 use Rattle.std.specs.Int.{int_min, int_max}
 use Rattle.std.proofs.lemmas.Int.{ints, clamps}
 use Rattle.std.proofs.lemmas.List.{append-nil, map-id}
@@ -124,3 +124,12 @@ pushed_both p base cell die axis conn left points more ends off some is both so_
 pub pushed_all : (p : Netlist) (base : List Place) (cell : ℕ) (die : Die) (axis : Axis) (points : List ℤ) → ArePushed p base cell die axis [] points → points ≡ breakpoints_of (pulls p base cell die axis)
 unfolding pulls_of breakpoints_of
 pushed_all p base cell die axis points so_far = sym (append-nil points) ∙ so_far.all
+
+-- what holds of each place and what stands there holds after a push, where it holds of the last
+pub each_pushed : {A : Type 0} (fact : ℕ → A → Type 0) (xs : List A) (x d : A) → ((k : ℕ) → k < length xs → fact k (get_or xs k d)) → fact (length xs) x
+    → (k : ℕ) → k < length (xs ++ x ∷ []) → fact k (get_or (xs ++ x ∷ []) k d)
+each_pushed fact [] x d each last zero lt = last
+each_pushed fact [] x d each last (suc k) lt = absurd (omega (arith, lt))
+each_pushed fact (y ∷ ys) x d each last zero lt = each 0 (omega arith)
+each_pushed fact (y ∷ ys) x d each last (suc k) lt =
+    each_pushed (λ j. fact (suc j)) ys x d (λ j below. each (suc j) (omega (arith, below))) last k (omega (arith, lt))

@@ -5,7 +5,6 @@ use Rattle.fp_base.specs.declared.ids.CellId.{CellId}
 use Rattle.fp_base.specs.declared.ids.Die.{Die}
 use Rattle.fp_base.specs.declared.ids.Die.TheVariants.{Top, Bottom}
 use Rattle.fp_base.specs.declared.ids.Point.{Point}
-use Rattle.fp_tech.specs.Plan.{IsPlan, segments}
 use Rattle.fp_netlist.specs.Netlist.{Netlist, IsSound}
 use Rattle.fp_place.specs.Placed.{LaneList}
 use Rattle.fp_score.specs.Pick.{Taken, Lined, widest_first, pick_on, lanes_by, after_both, picked}

@@ -1,49 +1,50 @@
--- The rows of a die as segments of a search.
-use Rattle.std.specs.Prelude.{◌≡◌, ℕ, ◌+◌, ◌*◌, ◌<◌, ◌≤◌, ◌^◌, List, length, ℤ, pos, ◌≤ℤ◌}
-use Rattle.std.proofs.Common.{sym, ap, subst, ◌∙◌, arith}
-use Rattle.std.proofs.Math.Nat.{mul-le-mul_left, mul-le-mul_right}
+-- The segments of a die as segments of a search.
+use Rattle.std.specs.Prelude.{◌≡◌, ◌⊎◌, ℕ, ◌<◌, ◌≤◌, length, ◌≤ℤ◌, Some, slice_get}
+use Rattle.std.proofs.Common.{ap, inl, inr, arith}
+use Rattle.std.proofs.lemmas.Bool.{cases_lt}
 use Rattle.std.proofs.lemmas.Int.{ints}
-use Rattle.std.proofs.lemmas.Option.{get_or_from_slice_get}
+use Rattle.std.proofs.lemmas.Option.{slice_get-get_or}
 use Rattle.fp_base.specs.declared.ids.Die.{Die}
-use Rattle.fp_base.specs.declared.ids.Die.TheVariants.{Top, Bottom}
 use Rattle.fp_tech.specs.declared.dies.DieSpec.{DieSpec}
 use Rattle.fp_tech.specs.declared.dies.Segment.{Segment}
-use Rattle.fp_tech.specs.Plan.{Plan, spec_of, row_at, segments, IsDieSpec, IsPlan}
-use Rattle.fp_tech.specs.PlanLaws.{length-segments, segment_at, few_segments}
+use Rattle.fp_tech.specs.Plan.{Plan, spec_of, segments, IsPlan, ComesBehind}
+use Rattle.fp_tech.specs.PlanLaws.{few_segments, segments_rise}
+use Rattle.fp_place.specs.PlacedLaws.{LiesInRange, segment_in_range}
 use Rattle.fp_score.specs.FirstFit.{no_segment}
 use Rattle.fp_coarse.specs.Nearest.{at, IsSegment, AreSegments}
 
-spec_in : (plan : Plan) → IsPlan plan → (die : Die) → IsDieSpec (length plan.book.techs) (spec_of plan die)
-spec_in plan is Top = is.setup.top
-spec_in plan is Bottom = is.setup.bottom
+there : (plan : Plan) (die : Die) (number : ℕ) → number < length (segments plan die) → slice_get (segments plan die) number ≡ Some (at (segments plan die) number)
+there plan die number below = slice_get-get_or (segments plan die) number no_segment below
 
-row_is : (plan : Plan) (die : Die) (i : ℕ) → i < (spec_of plan die).repeat → at (segments plan die) i ≡ row_at (spec_of plan die) i
-row_is plan die i below = get_or_from_slice_get (segments plan die) i (row_at (spec_of plan die) i) no_segment (segment_at plan die i below)
+segment_in : (segment : Segment) → LiesInRange segment → IsSegment segment
+segment_in segment lies = record {
+  y_low = omega (arith, ints, lies.y.least);
+  y_high = omega (arith, ints, lies.y.most);
+  low = omega (arith, ints, lies.start.least);
+  high = omega (arith, ints, lies.start.most);
+  some = lies.some;
+  long = omega (arith, ints, lies.length.most);
+}
 
-row_in : (techs : ℕ) (spec : DieSpec) (i : ℕ) → IsDieSpec techs spec → i < spec.repeat → IsSegment (row_at spec i)
-row_in techs spec i is below =
-    let high : i * spec.height ≤ i * 2 ^ 30 = mul-le-mul_left i is.height in
-    record {
-      y_low = omega (arith, ints);
-      y_high = omega (arith, ints, is.start_y, high, below, is.rows);
-      low = omega (arith, ints);
-      high = omega (arith, ints, is.start_x);
-      some = omega (arith, ints, is.some_length);
-      long = omega (arith, ints, is.length);
-    }
+-- a segment that comes behind another is not lower
+not_lower : (spec : DieSpec) (a b : Segment) → ComesBehind spec a b → a.y ≤ℤ b.y
+not_lower spec a b (inl above) = omega (arith, ints, above)
+not_lower spec a b (inr beside) = omega (arith, ints, beside.0)
 
-rows_rise : (spec : DieSpec) (i j : ℕ) → i ≤ j → (row_at spec i).y ≤ℤ (row_at spec j).y
-rows_rise spec i j le = omega (arith, ints, mul-le-mul_right spec.height le)
+rising : (plan : Plan) (die : Die) (i j : ℕ) → i ≤ j → j < length (segments plan die) → (at (segments plan die) i).y ≤ℤ (at (segments plan die) j).y
+rising plan die i j le below = by (cases_lt i j)
+  where
+    by : ((i < j) ⊎ (j ≤ i)) → (at (segments plan die) i).y ≤ℤ (at (segments plan die) j).y
+    by (inl less) =
+        not_lower (spec_of plan die) (at (segments plan die) i) (at (segments plan die) j)
+        (segments_rise plan die i j (at (segments plan die) i) (at (segments plan die) j) less (there plan die i (omega (arith, less, below))) (there plan die j below))
+    by (inr most) =
+        let one : i ≡ j = omega (arith, le, most) in
+        omega (arith, ints, ap (λ n. (at (segments plan die) n).y) one)
 
 pub rows_are : (plan : Plan) → IsPlan plan → (die : Die) → AreSegments (segments plan die)
 rows_are plan is die = record {
   few = few_segments plan is die;
-  each = λ number below.
-      let row : number < (spec_of plan die).repeat = omega (arith, below, length-segments plan die) in
-      subst IsSegment (sym (row_is plan die number row)) (row_in (length plan.book.techs) (spec_of plan die) number (spec_in plan is die) row);
-  rising = λ i j le below.
-      let last : j < (spec_of plan die).repeat = omega (arith, below, length-segments plan die) in
-      let first_is = ap (λ (s : Segment). s.y) (row_is plan die i (omega (arith, le, last))) in
-      let last_is = ap (λ (s : Segment). s.y) (row_is plan die j last) in
-      omega (arith, ints, first_is, last_is, rows_rise (spec_of plan die) i j le);
+  each = λ number below. segment_in (at (segments plan die) number) (segment_in_range plan is die number (at (segments plan die) number) (there plan die number below));
+  rising = rising plan die;
 }

@@ -1,7 +1,6 @@
 -- Cells that take segments one after the other, and the free lengths that are left.
-use Rattle.std.specs.Prelude.{◌≡◌, ℕ, ◌+◌, ◌<◌, ◌≤◌, Bool, true, false, nat_eq, if◌then◌else◌, int_le, List, [], ◌∷◌, ◌++◌, length, map, All, get_or, set, Option, Some, None, Result, Ok, Err, IsTrue, ◌⊎◌, ℤ, pos, ◌+ℤ◌, ◌-ℤ◌, ◌≤ℤ◌}
-use Rattle.std.specs.List.{sum_by}
-use Rattle.std.proofs.Common.{refl, sym, ap, subst, ◌∙◌, arith, cond, inl, inr, drop}
+use Rattle.std.specs.Prelude.{◌≡◌, ℕ, ◌+◌, ◌<◌, ◌≤◌, Bool, false, nat_eq, if◌then◌else◌, int_le, List, [], ◌∷◌, ◌++◌, length, get_or, Option, Some, None, Ok, Err, IsTrue, ◌⊎◌, ℤ, pos, ◌-ℤ◌, ◌≤ℤ◌}
+use Rattle.std.proofs.Common.{refl, sym, ap, subst, ◌∙◌, arith, inl, inr, drop}
 use Rattle.std.proofs.lemmas.Bool.{cases_eq, cases_lt, eq-eqb}
 use Rattle.std.proofs.lemmas.Bool.Decides.{nat_tests}
 use Rattle.std.proofs.lemmas.Int.{ints}
@@ -15,14 +14,13 @@ use Rattle.fp_tech.specs.declared.dies.Segment.{Segment}
 use Rattle.fp_tech.specs.Plan.{segments}
 use Rattle.fp_netlist.specs.Netlist.{Netlist}
 use Rattle.fp_netlist.specs.Points.{width}
-use Rattle.fp_place.specs.Settled.{first_least}
 use Rattle.fp_score.specs.FirstFit.{segment_at, no_segment}
 use Rattle.fp_score.specs.Pick.{Taken, taken_width, is_open, reach_cost, point_at, nearest_open, or_no_row, taken_by}
 use Rattle.fp_coarse.specs.declared.order.Choice.{Choice}
 use Rattle.fp_coarse.specs.Rooms.{lengths, has_free}
-use Rattle.fp_coarse.specs.Nearest.{at, cost_at, AreSegments, AreFree, IsLeastOrNone}
+use Rattle.fp_coarse.specs.Nearest.{cost_at, AreSegments, AreFree}
 use Rattle.fp_coarse.specs.Orders.{numbers_of, taken_as, taken_of}
-use Rattle.fp_coarse.specs.Picking.{AreLeft, IsNearest, IsChoice, lowered, taken_in}
+use Rattle.fp_coarse.specs.Picking.{AreLeft, IsNearest, lowered}
 use Rattle.fp_coarse.proofs.Firsts.{least_is, least_once, least_alike}
 
 -- a segment is open where its free length holds the cell

@@ -1,5 +1,5 @@
 -- The cells of a die, widest first.
-use Rattle.std.specs.Prelude.{◌≡◌, ℕ, ◌+◌, ◌<◌, ◌≤◌, Bool, true, false, List, [], ◌∷◌, ◌++◌, length, map, filter, All, get_or, ℤ, pos, ◌-ℤ◌, IfOk, Result, Ok, Err}
+use Rattle.std.specs.Prelude.{◌≡◌, ℕ, ◌+◌, ◌<◌, ◌≤◌, Bool, true, false, List, [], ◌∷◌, ◌++◌, length, map, filter, All, ℤ, pos, ◌-ℤ◌, IfOk, Result, Ok, Err}
 use Rattle.std.specs.List.{sum_by, range_with_len}
 use Rattle.std.specs.List.Sorted.{IsPermutation, IsSorted}
 use Rattle.std.specs.Ordering.{nat_cmp, int_cmp, ordering_then, is_lt}
@@ -18,7 +18,7 @@ use Rattle.fp_netlist.specs.Points.{width}
 use Rattle.fp_place.specs.Places.{die_at, same_die}
 use Rattle.fp_score.specs.Pick.{sorted_by, cells_on, widest_first}
 use Rattle.fp_coarse.specs.Orders.{numbers_of, entry_on, entries_on}
-use Rattle.fp_coarse.proofs.Sorting.{Goes, Ranked, entries_ranked, goes_by, rising_ranked, range_ranked, same_ranked, sort_sum, sort_all, sum_by-map}
+use Rattle.fp_coarse.proofs.Sorting.{Goes, entries_ranked, goes_by, rising_ranked, range_ranked, same_ranked, sort_sum, sort_all, sum_by-map}
 
 abbrev number_of : ℤ × ℕ → ℕ
 number_of entry = entry.1

@@ -4,6 +4,7 @@ pub mod Medians
 pub mod Nearest
 pub mod Orders
 pub mod Picking
+pub mod PickingLaws
 pub mod Rooms
 pub mod Targets
 pub mod TargetsLaws

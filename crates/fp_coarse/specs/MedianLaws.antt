@@ -90,7 +90,7 @@ falls pulls at (suc steps) below =
     let same : own_of pulls (to +ℤ pos 1) ≡ own_of pulls (at -ℤ pos steps) = ap (own_of pulls) (omega (arith, ints)) in
     omega (arith, ints, before, step, less, below, same)
 
-twice : (pulls : List Pull) → length (breakpoints_of pulls) ≡ 2 * length pulls
+pub twice : (pulls : List Pull) → length (breakpoints_of pulls) ≡ 2 * length pulls
 unfolding breakpoints_of
 twice [] = refl
 twice (pull ∷ pulls) = omega (arith, twice pulls)

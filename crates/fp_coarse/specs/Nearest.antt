@@ -1,5 +1,5 @@
 -- The nearest of some numbers: one of least cost, the first among ties.
-use Rattle.std.specs.Prelude.{◌≡◌, ℕ, ◌+◌, ◌<◌, ◌≤◌, ◌^◌, Bool, false, nat_le, nat_lt, if◌then◌else◌, List, length, get_or, All, Option, Some, None, IsTrue, unsigned_abs, ℤ, pos, ◌+ℤ◌, ◌-ℤ◌, ◌≤ℤ◌}
+use Rattle.std.specs.Prelude.{◌≡◌, ℕ, ◌+◌, ◌<◌, ◌≤◌, ◌^◌, Bool, false, nat_le, nat_lt, if◌then◌else◌, List, length, get_or, Option, Some, None, IsTrue, unsigned_abs, ℤ, pos, ◌+ℤ◌, ◌-ℤ◌, ◌≤ℤ◌}
 use Rattle.fp_base.specs.declared.ids.Point.{Point}
 use Rattle.fp_tech.specs.declared.dies.Segment.{Segment}
 use Rattle.fp_score.specs.FirstFit.{no_segment}

@@ -1,5 +1,5 @@
 -- Cells in order of a key, and by number among equal keys.
-use Rattle.std.specs.Prelude.{◌≡◌, ℕ, List, map, get_or, ℤ, pos, ◌-ℤ◌}
+use Rattle.std.specs.Prelude.{ℕ, List, map, ℤ, pos, ◌-ℤ◌}
 use Rattle.std.specs.List.Sorted.{IsPermutation, IsSorted}
 use Rattle.std.specs.Ordering.{nat_cmp, int_cmp, ordering_then}
 use Rattle.std.specs.declared.cmp.Ordering.{Ordering}

@@ -1,5 +1,5 @@
 -- The free lengths of segments, and bounds of them by blocks of 64.
-use Rattle.std.specs.Prelude.{◌≡◌, ℕ, ◌+◌, ◌*◌, ◌/◌, ◌<◌, ◌≤◌, ◌^◌, Bool, false, int_le, List, length, map, get_or, set, ℤ, pos, ◌≤ℤ◌, IsTrue}
+use Rattle.std.specs.Prelude.{◌≡◌, ℕ, ◌*◌, ◌/◌, ◌<◌, ◌≤◌, ◌^◌, Bool, false, int_le, List, length, map, get_or, set, ℤ, pos, ◌≤ℤ◌}
 use Rattle.fp_tech.specs.declared.dies.Segment.{Segment}
 
 abbrev pub lengths : List Segment → List ℤ

@@ -13,6 +13,8 @@ pub use median_targets::targets;
 pub use picking::{Picked, pick};
 
 #[cfg(test)]
+mod fixtures;
+#[cfg(test)]
 mod tests_of_picks;
 #[cfg(test)]
 mod tests_of_targets;

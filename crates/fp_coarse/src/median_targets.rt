@@ -4,11 +4,11 @@ ghost use Rattle.std.specs.Prelude.{◌≡◌, ◌<◌, ◌^◌, All, IfOk, [], 
 ghost use Rattle.fp_place.specs.Places.{place_at};
 ghost use Rattle.fp_place.specs.Placed.{places_of, IsPlacementOf};
 ghost use Rattle.fp_score.specs.Score.{corner};
-ghost use Rattle.fp_score.specs.Target.{along, pulls, IsTargetOf};
+ghost use Rattle.fp_score.specs.Target.{along, pulls, AreTargets, IsTargetOf};
 ghost use Rattle.fp_score.specs.declared.own.Axis.TheVariants as axes;
 ghost use Rattle.fp_coarse.specs.Medians.{breakpoints_of};
 ghost use Rattle.fp_coarse.specs.EndsOfNets.{AreEndsOfNets};
-ghost use Rattle.fp_coarse.specs.Targets.{AreTargets, IsNearTarget, IsTargetPlace};
+ghost use Rattle.fp_coarse.specs.Targets.{IsNearTarget, IsTargetPlace};
 
 use crate::ends::{NetEnds, ends_of_nets};
 use crate::median::lower_median;

@@ -1,86 +1,53 @@
 //! What no clause says: that memory is enough, and that the clauses mean what was meant.
 
-ghost use Rattle.std.specs.Prelude.{◌≡◌, ◌≤◌, ◌<◌, length};
+ghost use Rattle.std.specs.Prelude.{◌≡◌, ◌<◌, length};
 ghost use Rattle.fp_place.specs.Areas.{fits};
 ghost use Rattle.fp_coarse.specs.Nearest.{IsNearPoint};
 
+use crate::fixtures::{Design, Shape, Standing, problem_of};
 use crate::{Picked, pick};
-use fp_base::{Bottom, CellId, Die, LibId, NoMemory, Point, SegId, TechId};
-use fp_netlist::{Problem, ProblemBuilder};
+use fp_base::{Bottom, CellId, Die, NoMemory, Point, SegId};
+use fp_netlist::Problem;
 use fp_place::Lanes;
-use fp_tech::{BuildFault, DieSpec, Dies, Frame, TechBook, TermSpec};
+use fp_tech::Block;
 use std::alloc::Global;
 use std::process::Abort;
 use std::test::Fail;
 
-/// Two technologies, with a library cell of 4 by 10 and of 5 by 10.
-fn two_technologies(rt: &impl Abort, alloc: Global) -> Result<(TechBook, LibId), BuildFault> {
-    let mut book = TechBook::new(alloc);
-    let first = book.add_tech(b"TA")?;
-    let second = book.add_tech(b"TB")?;
-    assert!(rt; first.0 < book.techs());
-    let lib = book.add_lib(first, b"MC1", 4, 10)?;
-    assert!(rt; second.0 < book.techs());
-    book.add_lib(second, b"MC1", 5, 10)?;
-    Ok((book, lib))
-}
+const C1: CellId = CellId(0);
 
-/// Rows of this length on the bottom die, two of 20 on the top die, in a frame of 20 by 40.
-fn small_dies(
-    rt: &impl Abort,
-    alloc: Global,
-    book: TechBook,
-    length: u32,
-    repeat: u32,
-) -> Result<Dies, Fail>
-    requires some { 1 ≤ length }
-    requires small { length ≤ 20 }
-    requires rows { 1 ≤ repeat }
-    requires few { repeat ≤ 4 }
-{
-    let frame = Frame {
-        llx: 0,
-        lly: 0,
-        urx: 20,
-        ury: 40,
+const C2: CellId = CellId(1);
+
+const CELLS: [Standing; 2] = [
+    Standing {
+        name: b"C1",
+        die: Die::Bottom,
+        x: 0,
+        joined: false,
+    },
+    Standing {
+        name: b"C2",
+        die: Die::Bottom,
+        x: 0,
+        joined: false,
+    },
+];
+
+/// Two cells, of width 5 on the bottom die, over so many rows of a length.
+fn rows_of(length: u32, repeat: u32, blocks: &[Block]) -> Design<'_> {
+    let top = Shape {
+        width: 4,
+        pin_x: 0,
+        pin_y: 0,
     };
-    let terminal = TermSpec {
-        size_x: 2,
-        size_y: 2,
-        spacing: 1,
-    };
-    assert!(rt; book.techs() == 2);
-    let top = DieSpec {
-        percent: 10,
-        tech: TechId(0),
-        start_x: 0,
-        start_y: 0,
-        length: 20,
-        height: 10,
-        repeat: 2,
-    };
-    let bottom = DieSpec {
-        tech: TechId(1),
+    Design {
+        top,
+        bottom: Shape { width: 5, ..top },
         length,
         repeat,
-        ..top
-    };
-    Ok(Dies::new(alloc, book, frame, top, bottom, terminal)?)
-}
-
-/// A problem of two cells.
-fn small_problem(rt: &impl Abort, alloc: Global, length: u32, repeat: u32) -> Result<Problem, Fail>
-    requires some { 1 ≤ length }
-    requires small { length ≤ 20 }
-    requires rows { 1 ≤ repeat }
-    requires few { repeat ≤ 4 }
-{
-    let (book, lib) = two_technologies(rt, alloc)?;
-    let dies = small_dies(rt, alloc, book, length, repeat)?;
-    let mut builder = ProblemBuilder::new(alloc, dies);
-    builder.add_inst(b"C1", lib)?;
-    builder.add_inst(b"C2", lib)?;
-    Ok(builder.finish()?)
+        blocks,
+        cells: &CELLS,
+    }
 }
 
 /// Whether a cell is at most as high as a die's rows.
@@ -93,12 +60,12 @@ fn fits(problem: &Problem, cell: CellId, die: Die) -> bool
 }
 
 /// A target.
-fn near(x: i32, y: i32) -> Point
+fn near(at: (i32, i32)) -> Point
     ensures { IsNearPoint result }
 {
     Point {
-        x: i64::from(x),
-        y: i64::from(y),
+        x: i64::from(at.0),
+        y: i64::from(at.1),
     }
 }
 
@@ -124,31 +91,6 @@ fn pick_bottom(
     )
 }
 
-/// The same over so many rows of a length.
-fn pick_on_rows(
-    rt: &impl Abort,
-    alloc: Global,
-    length: u32,
-    repeat: u32,
-    targets: [(i32, i32); 2],
-) -> Result<Picked, Fail>
-    requires some { 1 ≤ length }
-    requires small { length ≤ 20 }
-    requires rows { 1 ≤ repeat }
-    requires few { repeat ≤ 4 }
-{
-    let problem = small_problem(rt, alloc, length, repeat)?;
-    let [first, second] = targets;
-    let picked = pick_bottom(
-        rt,
-        alloc,
-        &problem,
-        near(first.0, first.1),
-        near(second.0, second.1),
-    )?;
-    Ok(picked)
-}
-
 /// The lanes of the bottom die hold these cells.
 fn expect_lanes(rt: &impl Abort, lanes: &Lanes<Bottom>, expected: &[&[CellId]]) {
     assert!(rt; lanes.len() == expected.len());
@@ -158,55 +100,103 @@ fn expect_lanes(rt: &impl Abort, lanes: &Lanes<Bottom>, expected: &[&[CellId]]) 
     }
 }
 
-fn expect_rows(rt: &impl Abort, picked: &Picked, expected: &[&[CellId]]) {
-    match picked {
-        Picked::Rows { bottom, .. } => expect_lanes(rt, bottom, expected),
-        Picked::NoRow(_cell) => assert!(rt; false, "each finds a row"),
+/// What a pick answers: the cells of each segment of the bottom die, or the cell that finds no row.
+#[derive(Clone, Copy)]
+enum Expected<'a> {
+    Rows(&'a [&'a [CellId]]),
+    NoRow(CellId),
+}
+
+fn expect_picked(rt: &impl Abort, picked: &Picked, expected: Expected<'_>) {
+    match (picked, expected) {
+        (Picked::Rows { bottom, .. }, Expected::Rows(lanes)) => expect_lanes(rt, bottom, lanes),
+        (Picked::NoRow(cell), Expected::NoRow(stuck)) => assert!(rt; *cell == stuck),
+        _ => assert!(rt; false, "the other answer"),
     }
 }
 
-fn expect_no_row(rt: &impl Abort, picked: &Picked, expected: CellId) {
-    match picked {
-        Picked::Rows { .. } => assert!(rt; false, "a cell finds no row"),
-        Picked::NoRow(cell) => assert!(rt; *cell == expected),
-    }
+fn expect_over(
+    rt: &impl Abort,
+    alloc: Global,
+    problem: &Problem,
+    targets: [(i32, i32); 2],
+    expected: Expected<'_>,
+) -> Result<(), NoMemory> {
+    let [first, second] = targets;
+    let picked = pick_bottom(rt, alloc, problem, near(first), near(second))?;
+    expect_picked(rt, &picked, expected);
+    drop(picked);
+    Ok(())
 }
 
-const C1: CellId = CellId(0);
-
-const C2: CellId = CellId(1);
+/// Both cells are picked so, with these targets.
+fn expect_pick(
+    rt: &impl Abort,
+    alloc: Global,
+    design: Design<'_>,
+    targets: [(i32, i32); 2],
+    expected: Expected<'_>,
+) -> Result<(), Fail> {
+    let problem = problem_of(rt, alloc, design)?;
+    let done = expect_over(rt, alloc, &problem, targets, expected);
+    drop(problem);
+    Ok(done?)
+}
 
 #[test]
 fn full_rows(rt: HostRuntime) -> Result<(), Fail> {
-    let picked = pick_on_rows(&rt, rt.alloc(), 8, 1, [(0, 5), (0, 5)])?;
-    expect_no_row(&rt, &picked, C2);
-    Ok(())
+    let targets = [(0, 5), (0, 5)];
+    let expected = Expected::NoRow(C2);
+    expect_pick(&rt, rt.alloc(), rows_of(8, 1, &[]), targets, expected)
 }
 
 #[test]
 fn two_rows_as_near(rt: HostRuntime) -> Result<(), Fail> {
-    let picked = pick_on_rows(&rt, rt.alloc(), 20, 2, [(0, 5), (0, 5)])?;
-    expect_rows(&rt, &picked, &[&[C1, C2], &[]]);
-    Ok(())
+    let targets = [(0, 5), (0, 5)];
+    let expected = Expected::Rows(&[&[C1, C2], &[]]);
+    expect_pick(&rt, rt.alloc(), rows_of(20, 2, &[]), targets, expected)
 }
 
 #[test]
 fn order_in_a_row(rt: HostRuntime) -> Result<(), Fail> {
-    let picked = pick_on_rows(&rt, rt.alloc(), 20, 2, [(9, 8), (-3, 7)])?;
-    expect_rows(&rt, &picked, &[&[], &[C2, C1]]);
-    Ok(())
+    let targets = [(9, 8), (-3, 7)];
+    let expected = Expected::Rows(&[&[], &[C2, C1]]);
+    expect_pick(&rt, rt.alloc(), rows_of(20, 2, &[]), targets, expected)
 }
 
 #[test]
 fn next_row_below(rt: HostRuntime) -> Result<(), Fail> {
-    let picked = pick_on_rows(&rt, rt.alloc(), 8, 4, [(0, 10), (30, 10)])?;
-    expect_rows(&rt, &picked, &[&[C2], &[C1], &[], &[]]);
-    Ok(())
+    let targets = [(0, 10), (30, 10)];
+    let expected = Expected::Rows(&[&[C2], &[C1], &[], &[]]);
+    expect_pick(&rt, rt.alloc(), rows_of(8, 4, &[]), targets, expected)
 }
 
 #[test]
 fn row_beyond_the_last(rt: HostRuntime) -> Result<(), Fail> {
-    let picked = pick_on_rows(&rt, rt.alloc(), 8, 4, [(0, 30), (0, 33)])?;
-    expect_rows(&rt, &picked, &[&[], &[], &[C2], &[C1]]);
-    Ok(())
+    let targets = [(0, 30), (0, 33)];
+    let expected = Expected::Rows(&[&[], &[], &[C2], &[C1]]);
+    expect_pick(&rt, rt.alloc(), rows_of(8, 4, &[]), targets, expected)
+}
+
+// Two rows, each cut into a segment from 0 to 8 and one from 13 to 20.
+const CUT: [Block; 1] = [Block {
+    die: Die::Bottom,
+    llx: 8,
+    lly: 0,
+    urx: 13,
+    ury: 20,
+}];
+
+#[test]
+fn segments_of_one_row_as_near(rt: HostRuntime) -> Result<(), Fail> {
+    let targets = [(8, 10), (8, 10)];
+    let expected = Expected::Rows(&[&[], &[], &[C1], &[C2]]);
+    expect_pick(&rt, rt.alloc(), rows_of(20, 2, &CUT), targets, expected)
+}
+
+#[test]
+fn segment_of_the_row_below_as_near_as_one_beside(rt: HostRuntime) -> Result<(), Fail> {
+    let targets = [(13, 10), (13, 10)];
+    let expected = Expected::Rows(&[&[], &[C2], &[], &[C1]]);
+    expect_pick(&rt, rt.alloc(), rows_of(20, 2, &CUT), targets, expected)
 }

@@ -1,7 +1,6 @@
-use Rattle.std.proofs.Common.{◌≡◌, ℕ, ◌+◌, ◌<◌, ◌≤◌, ◌≤ℤ◌, Bool, List, ℤ, Some, length, IsTrue, refl, sym, subst, ◌∙◌, arith}
-use Rattle.fp_tech.specs.declared.dies.Segment.{Segment}
+use Rattle.std.proofs.Common.{ℕ, ◌+◌, Bool, Some, length, IsTrue, refl, sym, subst, ◌∙◌, arith}
 use Rattle.fp_coarse.specs.declared.nearest.Found.{Found}
-use Rattle.fp_coarse.specs.Nearest.{IsFound, earlier, cost_of, at}
+use Rattle.fp_coarse.specs.Nearest.{IsFound, earlier, cost_of}
 use Rattle.fp_coarse.specs.Rooms.{has_free, AreShut}
 use Rattle.fp_coarse.proofs.Bests.{best_further, best_above, stops_above, far_above, cost_is}
 use Rattle.fp_coarse.proofs.Hulls.{width_same}

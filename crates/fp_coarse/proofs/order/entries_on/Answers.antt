@@ -1,4 +1,4 @@
-use Rattle.std.proofs.Common.{◌≡◌, ◌∙◌, ap, sym, arith}
+use Rattle.std.proofs.Common.{◌∙◌, ap, sym, arith}
 use Rattle.std.proofs.lemmas.Int.{ints}
 use Rattle.fp_coarse.proofs.Widest.{entries_more, entries_same}
 use Rattle.fp_coarse.proofs.order.entries_on.Goals as goal

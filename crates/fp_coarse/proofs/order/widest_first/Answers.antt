@@ -1,4 +1,4 @@
-use Rattle.std.proofs.Common.{◌≡◌, ℕ, ◌<◌, ℤ, List, length, All, map, sym, ap, subst, ◌∙◌}
+use Rattle.std.proofs.Common.{◌≡◌, ℕ, ◌<◌, ℤ, length, All, map, sym, ap, subst, ◌∙◌}
 use Rattle.fp_base.specs.declared.ids.CellId.{CellId}
 use Rattle.fp_score.specs.Pick.{widest_first}
 use Rattle.fp_coarse.specs.Orders.{numbers_of}

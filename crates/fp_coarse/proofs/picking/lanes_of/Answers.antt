@@ -1,4 +1,4 @@
-use Rattle.std.proofs.Common.{◌≡◌, ◌∙◌, ℕ, ◌+◌, List, [], ◌∷◌, ◌++◌, ℤ, pos, length, get_or, set, take, replicate, sym, ap, subst, arith}
+use Rattle.std.proofs.Common.{◌∙◌, ℕ, List, [], ◌∷◌, ◌++◌, ℤ, pos, length, get_or, set, take, replicate, sym, ap, subst, arith}
 use Rattle.std.proofs.lemmas.List.{take_more, take_all}
 use Rattle.fp_base.specs.declared.ids.CellId.{CellId}
 use Rattle.fp_tech.specs.Plan.{Plan, segments}
