@@ -16,7 +16,7 @@ use Rattle.fp_out.specs.OutGrammar.{AreNames, ReadsOut}
 use Rattle.fp_out.specs.OutReading.{inst_next, terminal_next, part_next, drawing_next, out_of, GivesDrawing}
 use Rattle.fp_out.specs.Growing.{with_cells, with_terminals, Draws}
 use Rattle.fp_out.specs.ReadBack.{reads_back}
-use Rattle.fp_out.proofs.OutAgree.{read_is_in, is_in_read}
+use Rattle.fp_out.specs.OutReadingLaws.{read_is_in, is_in_read}
 
 -- what the parts read
 abbrev TopRead : Netlist → Drawing → Drawing → Left → Left → Type 0
@@ -74,7 +74,3 @@ pub gives_back : (p : Netlist) → IsSound p → (bytes : List ℕ) (result : Re
     → bytes ≡ out_text p (drawn_of placed) → GivesDrawing result (out_of p bytes) → GivesDrawing result (Ok (drawn_of placed))
 gives_back p sound bytes result placed of_problem cells nets same gives =
     gives_only p sound bytes result (drawn_of placed) (subst (λ (bs : List ℕ). ReadsOut p bs (drawn_of placed)) (sym same) (reads_back p placed sound of_problem cells nets)) gives
-
--- a file says at most one drawing
-pub one_drawing : (p : Netlist) → IsSound p → (bytes : List ℕ) (one other : Drawing) → ReadsOut p bytes one → ReadsOut p bytes other → one ≡ other
-one_drawing p sound bytes one other first second = ok_is one other (sym (is_in_read p sound bytes one first) ∙ is_in_read p sound bytes other second)

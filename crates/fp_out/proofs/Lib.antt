@@ -1,6 +1,4 @@
 mod DrawingRead
-mod Known
 mod LinesRead
 mod Lists
-mod OutAgree
 mod Texts

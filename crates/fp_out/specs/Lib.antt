@@ -1,6 +1,9 @@
 pub mod OutText
 pub mod OutTextLaws
+pub mod OutLengthLaws
 pub mod OutGrammar
 pub mod OutReading
+pub mod OutReadingLaws
+pub mod NamesLaws
 pub mod Growing
 pub mod ReadBack

@@ -5,7 +5,7 @@ use Rattle.fp_base.specs.declared.ids.Die.TheVariants.{Top, Bottom}
 use Rattle.fp_base.specs.declared.ids.Point.{Point}
 use Rattle.fp_text.specs.Words.{Word, words_of}
 use Rattle.fp_text.specs.Numbers.{is_name, Spells}
-use Rattle.fp_text.specs.ReadingLaws.{Each}
+use Rattle.fp_text.specs.Items.{Each}
 use Rattle.fp_netlist.specs.Netlist.{Netlist, cell_names}
 use Rattle.fp_place.specs.declared.drawn.DrawnCell.{DrawnCell}
 use Rattle.fp_place.specs.declared.drawn.DrawnTerminal.{DrawnTerminal}

@@ -13,7 +13,7 @@ use Rattle.fp_text.specs.Words.{is_blank, Word, words_from}
 use Rattle.fp_text.specs.WordsLaws.{words-one}
 use Rattle.fp_text.specs.Numbers.{is_name}
 use Rattle.fp_text.specs.NumbersLaws.{IsSolid, solid-tested, name-solid, decimal-solid, decimal-spells}
-use Rattle.fp_text.specs.ReadingLaws.{Each}
+use Rattle.fp_text.specs.Items.{Each}
 use Rattle.fp_netlist.specs.Netlist.{Netlist, Cell, cell_names, IsSound}
 use Rattle.fp_place.specs.declared.drawn.DrawnCell.{DrawnCell}
 use Rattle.fp_place.specs.declared.drawn.DrawnTerminal.{DrawnTerminal}
@@ -272,7 +272,7 @@ places_range p (spot ∷ spots) all =
     let here = all_head (IsSpotOf p) spot spots all in
     all_cons IsPlaceInRange (place_of spot) (map place_of spots) (here.x, here.y) (places_range p spots (all_tail (IsSpotOf p) spot spots all))
 
-drawable : (p : Netlist) (placed : Placed) → IsSound p → IsPlacementOf p placed → AreNames (cell_names p) → AreNames p.nets → IsDrawable p (drawn_of placed)
+pub drawable : (p : Netlist) (placed : Placed) → IsSound p → IsPlacementOf p placed → AreNames (cell_names p) → AreNames p.nets → IsDrawable p (drawn_of placed)
 drawable p placed sound of_problem cells nets =
     let places = places_of placed in
     let many : length places ≡ length p.cells = length-map placed.spots place_of ∙ of_problem.cells in

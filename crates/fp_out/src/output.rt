@@ -1,11 +1,13 @@
 //! The whole output file.
 
-ghost use Rattle.std.specs.Prelude.{◌≡◌, ◌≤◌, OnOk, OnErr, codes};
+ghost use Rattle.std.specs.Prelude.{◌≡◌, ◌<◌, ◌≤◌, ◌^◌, OnOk, OnErr, codes, length};
 ghost use Rattle.fp_base.specs.Faults.{Rose};
 ghost use Rattle.fp_base.specs.Files.{sets_file, OthersStay};
 ghost use Rattle.fp_text.specs.Writing.{told, GoesOn, Adds};
+ghost use Rattle.fp_netlist.specs.Netlist.{cell_names};
 ghost use Rattle.fp_place.specs.Drawing.{lines_from, terminals_from};
 ghost use Rattle.fp_place.specs.Placed.{places_of, drawn_of, IsPlacementOf};
+ghost use Rattle.fp_out.specs.OutGrammar.{AreNames};
 ghost use Rattle.fp_out.specs.OutText.{die_word, insts_text, terminals_text, die_part, terminal_part, out_text};
 
 use crate::counts::{cells_on, terminals};
@@ -29,7 +31,10 @@ pub fn write_out<F: Folder>(
     ensures others { OthersStay name.now (F.held folder.old) (F.held folder.new) }
     ensures later { F.faults folder.old ≤ F.faults folder.new }
     ensures cause { OnErr result (Rose (F.faults folder.old) (F.faults folder.new)) }
+    // The text is shorter than the longest that files are read for, where the problem's names are names, as those of an input file are.
+    ensures small { AreNames (cell_names problem.now) → AreNames problem.now.nets → length (out_text problem.now (drawn_of placement.now)) < 2 ^ 28 }
 {
+    let _cells = problem.cells();
     let mut writer = Writer::new(folder, name);
     write_die(&mut writer, folder, name, problem, placement, Die::Top);
     write_die(&mut writer, folder, name, problem, placement, Die::Bottom);

@@ -1,6 +1,6 @@
 //! Reading an output file.
 
-ghost use Rattle.std.specs.Prelude.{◌≡◌, ◌≤◌, ◌^◌, [], codes, Ok, IfOk};
+ghost use Rattle.std.specs.Prelude.{◌≡◌, ◌≤◌, ◌^◌, ◌↔◌, [], codes, Ok, IfOk};
 ghost use Rattle.std.specs.Option.{option_map};
 ghost use Rattle.fp_text.specs.Reading.{Gives, many_next};
 ghost use Rattle.fp_netlist.specs.Netlist.{cell_names};
@@ -234,6 +234,8 @@ pub fn read_out(alloc: Global, problem: &Problem, bytes: &[u8]) -> Result<Drawn,
     ensures reads { IfOk result (λ drawn. ReadsOut problem.now bytes.now drawn) }
     // What is in the grammar is read, unless memory runs out.
     ensures only { (drawing : Drawing) → ReadsOut problem.now bytes.now drawing → GivesDrawing result (Ok drawing) }
+    // A file says a drawing exactly where the reading from left to right gives it.
+    ensures agree { (drawing : Drawing) → ReadsOut problem.now bytes.now drawing ↔ (out_of problem.now bytes.now ≡ Ok drawing) }
     // A file says at most one drawing.
     ensures unique { (one other : Drawing) → ReadsOut problem.now bytes.now one → ReadsOut problem.now bytes.now other → one ≡ other }
     // Which fault it is.

@@ -2,7 +2,8 @@ use Rattle.std.proofs.Common.{Ok, Err, subst}
 use Rattle.std.proofs.lemmas.Result.{err_from_is_err_and}
 use Rattle.fp_text.specs.Reading.{Left, GivesFault}
 use Rattle.fp_out.specs.OutReading.{drawing_next, GivesDrawing}
-use Rattle.fp_out.proofs.DrawingRead.{gives_reads, gives_only, gives_back, one_drawing}
+use Rattle.fp_out.specs.OutReadingLaws.{reads_exactly, one_drawing}
+use Rattle.fp_out.proofs.DrawingRead.{gives_reads, gives_only, gives_back}
 use Rattle.fp_out.proofs.reader.read_out.Goals as goal
 
 pub returns-in_err-drawing-clause-only : goal.returns-in_err-drawing-clause-only
@@ -37,3 +38,9 @@ returns-in_err-drawing-clause-unique c = one_drawing c.args.problem.now c.cells-
 
 pub returns-clause-unique : goal.returns-clause-unique
 returns-clause-unique c = one_drawing c.args.problem.now c.cells-cells.ensures.sound c.args.bytes.now
+
+pub returns-in_err-drawing-clause-agree : goal.returns-in_err-drawing-clause-agree
+returns-in_err-drawing-clause-agree c = reads_exactly c.args.problem.now c.cells-cells.ensures.sound c.args.bytes.now
+
+pub returns-clause-agree : goal.returns-clause-agree
+returns-clause-agree c = reads_exactly c.args.problem.now c.cells-cells.ensures.sound c.args.bytes.now

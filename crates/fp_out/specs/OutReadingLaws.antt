@@ -1,6 +1,6 @@
--- The output file: what is read is in the grammar, and what is in the grammar is read.
+-- Laws of reading an output file: what is read is in the grammar, what is in the grammar is read, and bytes say at most one drawing.
 use Rattle.std.proofs.Common.{◌≡◌, ℕ, ◌^◌, ◌≤◌, List, [], length, Option, Some, None, Ok, refl, sym, ap, subst, ◌∙◌, arith}
-use Rattle.std.specs.Prelude.{codes, pos}
+use Rattle.std.specs.Prelude.{codes, pos, ◌↔◌}
 use Rattle.std.specs.List.{IsDistinct}
 use Rattle.std.specs.Str.{bytes_eq}
 use Rattle.fp_base.specs.declared.ids.Die.TheVariants.{Top, Bottom}
@@ -8,7 +8,8 @@ use Rattle.fp_base.specs.declared.ids.Point.{Point}
 use Rattle.fp_text.specs.Words.{Word, words_of}
 use Rattle.fp_text.specs.Reading.{Left, Read, whole, word_next, keyword_next, number_next, end_next}
 use Rattle.fp_text.specs.ReadingLaws as laws
-use Rattle.fp_text.specs.ReadingLaws.{left_of, bind_ok, ok_is, word_ok, word_again, end_ok, end_again, Each, many_ok, many_again}
+use Rattle.fp_text.specs.Items.{Each}
+use Rattle.fp_text.specs.ReadingLaws.{left_of, bind_ok, ok_is, word_ok, word_again, end_ok, end_again, many_ok, many_again}
 use Rattle.fp_text.specs.declared.fault.Kind.{Kind}
 use Rattle.fp_text.specs.declared.fault.Kind.TheVariants as kinds
 use Rattle.fp_netlist.specs.Netlist.{Netlist, cell_names, IsSound}
@@ -18,7 +19,7 @@ use Rattle.fp_place.specs.Drawing.{Drawing}
 use Rattle.fp_out.specs.OutText.{die_word}
 use Rattle.fp_out.specs.OutGrammar.{most_coordinate, most_lines, Keyword, Number, Names, Coordinate, IsInst, IsTerminal, IsPart, IsDrawing, ReadsOut}
 use Rattle.fp_out.specs.OutReading.{number_of, known_at, known_next, point_next, inst_next, terminal_next, head_next, part_next, drawing_next, out_of}
-use Rattle.fp_out.proofs.Known as known
+use Rattle.fp_out.specs.NamesLaws as known
 
 -- a reader's value stands in the words that it took, and what stands there is read
 abbrev Took : {A : Type 0} → (A → List Word → List Word → Type 0) → (Left → Read A) → Type 0
@@ -217,3 +218,11 @@ is_in_read p sound bytes drawing s =
     let bottom = part_again (die_word Bottom) (IsInst p) (inst_next p) (inst_again p sound) (left_of (whole bytes) s.after_top) drawing.bottom s.after_bottom s.bottom in
     let terminals = part_again (codes "NumTerminals") (IsTerminal p) (terminal_next p) (terminal_again p sound) (left_of (whole bytes) s.after_bottom) drawing.terminals [] s.terminals in
     rw (top, bottom, terminals, end_again (left_of (whole bytes) []) refl) refl
+
+-- bytes are an output file that says a drawing exactly where the reading from left to right gives it
+pub reads_exactly : (p : Netlist) → IsSound p → (bytes : List ℕ) (drawing : Drawing) → ReadsOut p bytes drawing ↔ (out_of p bytes ≡ Ok drawing)
+reads_exactly p sound bytes drawing = (is_in_read p sound bytes drawing, read_is_in p bytes drawing)
+
+-- and say at most one
+pub one_drawing : (p : Netlist) → IsSound p → (bytes : List ℕ) (one other : Drawing) → ReadsOut p bytes one → ReadsOut p bytes other → one ≡ other
+one_drawing p sound bytes one other first second = ok_is one other (sym (is_in_read p sound bytes one first) ∙ is_in_read p sound bytes other second)
