@@ -1,19 +1,15 @@
 -- The keys of a net's cells, cell by cell, and what the orders show of them.
-use Rattle.std.proofs.Common.{◌≡◌, ◌≢◌, ◌==◌, ℕ, ◌+◌, ◌^◌, ◌<◌, ◌≤◌, ◌||◌, Bool, true, false, List, length, take, get_or, set, if◌then◌else◌, is_some, None, refl, sym, ap, subst, ◌∙◌, arith}
+use Rattle.std.proofs.Common.{◌≡◌, ◌≢◌, ◌==◌, ℕ, ◌+◌, ◌^◌, ◌<◌, ◌≤◌, ◌||◌, Bool, true, false, List, length, take, get_or, set, if◌then◌else◌, refl, ap, subst, ◌∙◌, arith}
 use Rattle.std.specs.List.{All, IsDistinct}
-use Rattle.std.proofs.lemmas.List.{length-set, get_or-set_same, get_or-set_other, get_or_default, take_all}
+use Rattle.std.proofs.lemmas.List.{length-set, get_or-set_same, get_or-set_other, get_or_default}
 use Rattle.std.proofs.lemmas.Bool.Decides.{nat_tests}
 use Rattle.fp_base.specs.declared.ids.Die.{Die}
-use Rattle.fp_base.specs.declared.ids.Die.TheVariants.{Top, Bottom}
-use Rattle.fp_netlist.specs.Netlist.{Netlist}
-use Rattle.fp_netlist.specs.Points.{area}
 use Rattle.fp_place.specs.Places.{die_at}
 use Rattle.fp_gains.specs.declared.sides.Sides.{Sides}
 use Rattle.fp_gains.specs.declared.ranks.Ranks.{Ranks}
 use Rattle.fp_gains.specs.Links.{holds}
 use Rattle.fp_gains.specs.Sides.{share}
-use Rattle.fp_gains.specs.Kept.{free_key, Shows, AreShown, AreShownBut, AreLong, AreListed, Follow}
-use Rattle.fp_gains.specs.Ordered.{Ordered, is_in, IsOrderOf, IsDealt}
+use Rattle.fp_gains.specs.Kept.{Follow}
 use Rattle.fp_gains.specs.Changes.{AreInRange, part, AreReweighed}
 use Rattle.fp_gains.proofs.HoldLemmas.{holds_more, not_before, same_true}
 

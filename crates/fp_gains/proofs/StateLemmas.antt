@@ -1,7 +1,7 @@
 -- Steps of what changes in gains.
 use Rattle.std.proofs.Common.{◌≡◌, ◌≢◌, ◌==◌, ℕ, zero, suc, ◌+◌, ◌-◌, ◌*◌, ◌^◌, ◌<◌, ◌≤◌, ◌||◌, Bool, true, false, List, [], ◌∷◌, ◌++◌, length, take, drop, map, get_or, set, if◌then◌else◌, refl, sym, ap, subst, ◌∙◌, arith}
 use Rattle.std.specs.List.{IsDistinct}
-use Rattle.std.proofs.lemmas.List.{length-set, get_or-set_same, get_or-set_other, get_or_default, take_all, drop_all, append-nil}
+use Rattle.std.proofs.lemmas.List.{length-set, get_or-set_same, get_or-set_other, get_or_default}
 use Rattle.std.proofs.lemmas.List.Sums.{count_by-le-length}
 use Rattle.std.proofs.lemmas.List.Folds.{list_any_at}
 use Rattle.std.proofs.lemmas.Bool.Decides.{nat_tests}
@@ -19,7 +19,7 @@ use Rattle.fp_gains.specs.Changes.{AreInRange, part, AreReweighed, CanTurn, AreT
 use Rattle.fp_gains.proofs.HoldLemmas.{holds_more, not_before, same_true, held_is}
 use Rattle.fp_gains.proofs.WeightLemmas.{shares_set, degree_le, shares_le, share_turned, shares_turned}
 use Rattle.fp_gains.proofs.CutLemmas.{flipped_here, flipped_there, sides_move, sides_stay}
-use Rattle.fp_gains.proofs.RankLemmas.{follow_none, follow_more}
+use Rattle.fp_gains.proofs.RankLemmas.{follow_more}
 
 -- keys are in range
 pub key_small : (members : List (List ℕ)) (dies : List Die) (sides : List Sides) (keys : List ℕ) → AreWeighed members dies sides keys → length members ≤ 2 ^ 18

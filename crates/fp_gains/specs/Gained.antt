@@ -1,4 +1,4 @@
--- Gains: what a move of each cell to its other die takes from the number of cut nets.
+-- Fiduccia-Mattheyses gains: how many nets fewer are cut after a move of each cell to its other die.
 use Rattle.std.specs.Prelude.{◌≡◌, ℕ, ◌<◌, Bool, ◌&&◌, not, List, length}
 use Rattle.fp_base.specs.declared.ids.Die.{Die}
 use Rattle.fp_base.specs.declared.ids.Die.TheVariants.{Top, Bottom}

@@ -1,5 +1,5 @@
--- How gains are kept: for each net the number of its cells on each die, for each cell a key that rises with its gain, and for each die an
--- order that shows the keys of the cells which are free to move there.
+-- How gains are kept: for each net its distribution, for each cell a key, which is its gain counted from `even`, and for each die an order
+-- that shows the keys of the free cells which stand on the other die.
 use Rattle.std.specs.Prelude.{◌≡◌, ◌≢◌, ℕ, ◌+◌, ◌^◌, ◌<◌, Bool, true, false, ◌&&◌, not, if◌then◌else◌, List, [], ◌∷◌, length, replicate, get_or}
 use Rattle.fp_base.specs.declared.ids.Die.{Die}
 use Rattle.fp_base.specs.declared.ids.Die.TheVariants.{Top, Bottom}
@@ -16,7 +16,7 @@ use Rattle.fp_gains.specs.Sides.{no_sides, sides_of, share}
 use Rattle.fp_gains.specs.Gained.{Gained}
 use Rattle.fp_gains.specs.Ordered.{Ordered, is_in, key_of, IsOrderOf, IsNewOrder}
 
--- the key of a cell whose move changes nothing
+-- the key of gain 0
 abbrev pub even : ℕ
 even = 2 ^ 21 + 1
 
@@ -30,13 +30,13 @@ unfoldable pub degree : ℕ → List (List ℕ) → ℕ
 degree cell [] = 0
 degree cell (cells ∷ others) = (if holds cells cell then 1 else 0) + degree cell others
 
--- the keys are those of the gains by these numbers of cells on each die
+-- the keys are those of the gains by these distributions
 pub record AreWeighed (members : List (List ℕ)) (dies : List Die) (sides : List Sides) (keys : List ℕ) : Type 0 where
   pub all_cells : length keys ≡ length dies
   pub all_nets : length sides ≡ length members
   pub each : (cell : ℕ) → cell < length dies → get_or keys cell 0 + degree cell members ≡ even + shares (die_at dies cell) cell members sides
 
--- the numbers of cells are those of the dies
+-- the distributions are those of the dies
 abbrev pub AreCounted : List (List ℕ) → List Die → List Sides → Type 0
 AreCounted members dies sides = (net : ℕ) → net < length members → get_or sides net no_sides ≡ sides_of dies (list_at members net)
 
@@ -100,7 +100,7 @@ pub record Follow (old new : Ranks) : Type 0 where
   pub top : (p : Netlist) → IsOrderOf p Top old.top → IsOrderOf p Top new.top
   pub bottom : (p : Netlist) → IsOrderOf p Bottom old.bottom → IsOrderOf p Bottom new.bottom
 
--- the keys are those of the numbers of cells, and are shown
+-- the keys are those of the distributions, and are shown
 pub record IsRanked (members : List (List ℕ)) (s : State) : Type 0 where
   pub weighed : AreWeighed members s.dies.items s.sides.items s.ranks.keys.items
   pub shown : AreShown s.dies.items s.locked.items s.ranks

@@ -1,4 +1,4 @@
--- How many cells of a net stand on each die, and what a net adds to the gain of a cell, after Fiduccia and Mattheyses.
+-- The distribution of a net, which is how many of its cells stand on each die, and what a net adds to the gain of a cell.
 use Rattle.std.specs.Prelude.{ℕ, ◌+◌, ◌-◌, ◌&&◌, nat_lt, if◌then◌else◌, List}
 use Rattle.std.specs.List.{count_by}
 use Rattle.fp_base.specs.declared.ids.Die.{Die}

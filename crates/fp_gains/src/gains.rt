@@ -1,4 +1,9 @@
-//! Gains of moves between the two dies.
+//! Fiduccia-Mattheyses gains of moves between the two dies.
+//!
+//! After C. M. Fiduccia and R. M. Mattheyses, "A linear-time heuristic for improving network partitions", 19th Design Automation
+//! Conference, 1982: for each net its distribution is kept, the numbers of its cells on each die, and a move changes the gains of those
+//! cells alone that share a net with the moved cell. In place of their buckets of equal gain each die has a tournament tree over the
+//! cells that fit it, in order of area, since which cells have room depends on their areas.
 
 ghost use Rattle.std.specs.Prelude.{◌≡◌, ℕ, ◌+ℤ◌, ◌<◌, IfOk, pos, false, true, length, map, set};
 ghost use Rattle.std.specs.Option.{option_map};
@@ -22,8 +27,8 @@ use fp_place::Caps;
 use std::alloc::Global;
 use std::marker::Model;
 
-/// The gain of each cell's move to its other die: how many nets fewer are cut after it. By each net's numbers of cells on each die, as
-/// Fiduccia and Mattheyses keep them, a move changes the gains of the cells of its nets alone.
+/// The Fiduccia-Mattheyses gain of each cell: how many nets fewer are cut after its move to its other die, from minus its number of nets
+/// up to that number. Each cell is free or locked.
 #[derive(Drop)]
 pub struct Gains {
     members: Lists,
@@ -43,7 +48,8 @@ impl Model for Gains {
 }
 
 impl Gains {
-    /// The gains of a problem's cells where each stands on its die of the list. No cell is locked. All memory is taken here.
+    /// The gains of a problem's cells where each stands on its die of the list. All cells are free. All memory is taken here; `NoMemory`
+    /// comes only where there is none.
     pub fn new(alloc: Global, problem: &Problem, dies: &[Die]) -> Result<Gains, NoMemory>
         requires { length dies.now ≡ length problem.now.cells }
         ensures of_problem { IfOk result (IsGainsOf problem.now) }
@@ -68,7 +74,7 @@ impl Gains {
         &self.state.dies
     }
 
-    /// How many nets fewer are cut after a cell's move to its other die.
+    /// The gain of a cell: how many nets fewer are cut after its move to its other die.
     pub fn gain(&self, cell: CellId) -> i64
         requires { cell.0 < length self.now.dies }
         ensures { (p : Netlist) → IsGainsOf p self.now → pos (cut p self.now.dies) ≡ (pos (cut p (flipped self.now.dies cell.0)) +ℤ result) }
@@ -76,8 +82,8 @@ impl Gains {
         gain_of(self.state.ranks.keys[cell.0 as usize])
     }
 
-    /// Moves a cell to its other die, whether it is locked or not. It touches the cells of the cell's nets alone. All that it needs of the
-    /// problem, which the gains are of, is kept here.
+    /// Moves a cell to its other die, whether it is free or locked. It updates the gains of the cells of the cell's nets alone. All that it
+    /// needs of the problem, which the gains are of, is kept here.
     pub fn flip(&mut self, _problem: &Problem, cell: CellId)
         requires { cell.0 < length self.old.dies }
         ensures dies { self.new.dies ≡ flipped self.old.dies cell.0 }
@@ -87,7 +93,7 @@ impl Gains {
         self.state.flip(&self.members, &self.nets, cell);
     }
 
-    /// Locks a cell: it is not chosen until all cells are unlocked.
+    /// Locks a cell: it is no base cell until all cells are unlocked.
     pub fn lock(&mut self, cell: CellId)
         requires { cell.0 < length self.old.dies }
         ensures dies { self.new.dies ≡ self.old.dies }
@@ -97,7 +103,7 @@ impl Gains {
         self.state.lock(cell);
     }
 
-    /// Unlocks every cell.
+    /// Unlocks every cell: all are free.
     pub fn unlock_all(&mut self)
         ensures dies { self.new.dies ≡ self.old.dies }
         ensures locked { self.new.locked ≡ map (λ _. false) self.old.locked }
@@ -106,7 +112,7 @@ impl Gains {
         self.state.unlock_all();
     }
 
-    /// Begins again where each cell stands on its die of another list. No cell is locked. What is known of the problem stays, so this is
+    /// Begins again where each cell stands on its die of another list. All cells are free. What is known of the problem stays, so this is
     /// quicker than to make the gains anew.
     pub fn restart(&mut self, dies: &[Die])
         requires { length dies.now ≡ length self.old.dies }
@@ -117,8 +123,8 @@ impl Gains {
         self.state.restart(&self.members, dies);
     }
 
-    /// Of the cells that are not locked, fit their other die and have room there beside the area that is held, one of greatest gain, the
-    /// least id among ties. None exactly where there is no such cell.
+    /// The base cell of the next move: of the free cells that fit their other die and have room there beside the area that is held, one of
+    /// greatest gain, the least id among ties. None exactly where there is no such cell.
     pub fn best_movable(&self, problem: &Problem, caps: &Caps) -> Option<CellId>
         requires { IsGainsOf problem.now self.now }
         ensures { option_map (λ cell. cell.0) result ≡ first_least (is_movable problem.now caps.now self.now)
@@ -148,7 +154,7 @@ fn better(first: Option<Leader>, second: Option<Leader>) -> Option<Leader>
     }
 }
 
-// All cells where they stand, locked, with no cell of a net counted.
+// All cells where they stand, locked, with no cell counted in the distributions of the nets.
 fn start(alloc: Global, problem: &Problem, dies: &[Die]) -> Result<State, NoMemory>
     requires { length dies.now ≡ length problem.now.cells }
     ensures state { IfOk result (IsStart problem.now dies.now) }

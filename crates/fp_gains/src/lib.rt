@@ -1,5 +1,5 @@
-//! Gains of moves between the two dies, after Fiduccia and Mattheyses (DAC 1982): for each cell how many cut nets its move would save,
-//! and the best cell that may move. The orders of the cells that fit a die, and their tournaments, are our own.
+//! Fiduccia-Mattheyses gains of moves between the two dies: for each cell how many nets fewer are cut after its move, and the base cell of
+//! the next move, a free cell of greatest gain that fits its other die and has room there.
 #![tactic(auto)]
 
 mod gains;

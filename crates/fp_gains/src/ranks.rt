@@ -1,4 +1,4 @@
-//! The keys of the cells, in the orders of both dies.
+//! The gains of the cells as keys, in the orders of both dies.
 
 ghost use Rattle.std.specs.Prelude.{◌≡◌, ℕ, ◌<◌, ◌≤◌, ◌^◌, ◌==◌, All, true, false, length, set, if◌then◌else◌};
 ghost use Rattle.std.specs.List.{IsDistinct};
@@ -12,8 +12,8 @@ use crate::order::Order;
 use crate::sides::Sides;
 use fp_base::{CellId, Die};
 
-/// A key for each cell, which rises with its gain, and for each die an order that shows the keys of the cells that are free to move
-/// there.
+/// A key for each cell, its gain counted from `EVEN`, and for each die an order that shows the keys of the free cells that stand on the
+/// other die.
 #[derive(Drop)]
 pub struct Ranks {
     pub keys: Vec<u32>,
@@ -23,7 +23,7 @@ pub struct Ranks {
     pub listed: Vec<u32>,
 }
 
-/// The key of a cell whose move changes nothing.
+/// The key of gain 0. It is more than the nets of a cell, so each key is above 0.
 pub const EVEN: u32 = (1 << 21) + 1;
 
 impl Ranks {
@@ -58,7 +58,7 @@ impl Ranks {
         }
     }
 
-    /// Shows a cell no more that was locked. The order of the die that it stands on has nothing to show of it.
+    /// Hides a cell that was locked. The order of the die that it stands on shows nothing of it already.
     pub fn hide(&mut self, dies: &[Die], locked: &[bool], cell: CellId)
         requires cell { cell.0 < length dies.now }
         requires locked { is_moved locked.now cell.0 ≡ true }
@@ -120,7 +120,7 @@ impl Ranks {
         }
     }
 
-    /// Gives each of these cells the key that its net's numbers of cells after a change make of the key by those before.
+    /// Updates the keys of the cells of a net, whose distribution changes.
     pub fn reweigh(
         &mut self,
         dies: &[Die],
@@ -145,7 +145,7 @@ impl Ranks {
     }
 }
 
-// Lists the keys of the cells that are free to move to a die, 0 for others.
+// Lists the keys of the free cells that stand on a die's other die, 0 for others.
 fn list_free(dies: &[Die], locked: &[bool], keys: &[u32], die: Die, listed: &mut Vec<u32>)
     requires few { length dies.now ≤ 2 ^ 18 }
     requires locks { length locked.now ≡ length dies.now }
@@ -159,7 +159,7 @@ fn list_free(dies: &[Die], locked: &[bool], keys: &[u32], die: Die, listed: &mut
     }
 }
 
-// The key of a cell that is free to move to a die, 0 for others.
+// The key of a free cell that stands on a die's other die, 0 for others.
 fn free_key(dies: &[Die], locked: &[bool], key: u32, die: Die, cell: CellId) -> u32
     requires cell { cell.0 < length dies.now }
     requires locks { length locked.now ≡ length dies.now }

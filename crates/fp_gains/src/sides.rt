@@ -1,4 +1,4 @@
-//! How many cells of a net stand on each die.
+//! The distribution of a net: how many of its cells stand on each die.
 
 ghost use Rattle.std.specs.Prelude.{◌≡◌, ◌<◌, ◌≤◌, ◌^◌, ◌+◌, All, IsTrue, length};
 ghost use Rattle.fp_base.specs.declared.ids.Die.TheVariants.{Top, Bottom};
@@ -6,7 +6,7 @@ ghost use Rattle.fp_gains.specs.Sides.{count_on, on_die, sides_of, moved, share_
 
 use fp_base::Die;
 
-/// How many cells of a net stand on each die.
+/// The distribution of a net: how many of its cells stand on each die.
 #[derive(Clone, Copy)]
 pub struct Sides {
     pub top: u32,
@@ -17,7 +17,7 @@ pub struct Sides {
 pub const NO_SIDES: Sides = Sides { top: 0, bottom: 0 };
 
 impl Sides {
-    /// Those of a net's cells.
+    /// The distribution of a net with these cells.
     pub fn of(dies: &[Die], cells: &[u32]) -> Sides
         requires within { All (λ cell. cell < length dies.now) cells.now }
         requires few { length cells.now ≤ 2 ^ 21 }
@@ -29,7 +29,7 @@ impl Sides {
         }
     }
 
-    /// After one of the cells left a die for the other.
+    /// The distribution after one of the net's cells left a die for the other.
     pub fn moved(self, from: Die) -> Sides
         requires there { 0 < count_on self from }
         requires few { self.top + self.bottom ≤ 2 ^ 22 }
@@ -47,7 +47,7 @@ impl Sides {
         }
     }
 
-    /// What the net adds to the key of a cell that stands on the die, from 0 to 2.
+    /// One more than what the net adds to the gain of a cell that stands on the die, so from 0 to 2.
     pub fn share(self, die: Die) -> u32
         ensures share { result ≡ share die self }
         ensures small { result ≤ 2 }
@@ -58,7 +58,7 @@ impl Sides {
         }
     }
 
-    /// Whether the net adds as much to each cell's key as with the other numbers.
+    /// Whether the net adds as much to the gain of each of its cells as with the other distribution.
     pub fn weighs_as(self, other: Sides) -> bool
         ensures top { IsTrue result → share Top self ≡ share Top other }
         ensures bottom { IsTrue result → share Bottom self ≡ share Bottom other }
@@ -81,7 +81,8 @@ fn count_on(dies: &[Die], die: Die, cells: &[u32]) -> u32
         .count() as u32
 }
 
-// One more than what a net with so many cells here and there loses in cuts when one goes there.
+// One more than what a net with so many cells here and there adds to the gain of a cell here: 1 where it is cut before the cell's move,
+// and less 1 where it is cut after it.
 fn share_by(here: u32, there: u32) -> u32
     ensures share { result ≡ share_by here there }
     ensures small { result ≤ 2 }

@@ -1,4 +1,4 @@
-//! What changes in gains: where cells stand, which are locked, the nets' numbers of cells on each die, and the keys.
+//! What changes in gains: where cells stand, which are locked, the distributions of the nets, and the keys of the gains.
 
 ghost use Rattle.std.specs.Prelude.{◌≡◌, ℕ, ◌+◌, ◌<◌, ◌≤◌, ◌^◌, ◌==◌, All, true, false, length, set, map, replicate};
 ghost use Rattle.std.specs.List.{IsDistinct};
@@ -13,7 +13,7 @@ use crate::sides::{NO_SIDES, Sides};
 use fp_base::{CellId, Die};
 use fp_place::other;
 
-/// Where the cells stand, which are locked, how many of each net's cells stand on each die, and the cells' keys.
+/// Where the cells stand, which are locked, the distribution of each net, and the keys of the cells' gains.
 #[derive(Drop)]
 pub struct State {
     pub dies: Vec<Die>,
@@ -23,7 +23,7 @@ pub struct State {
 }
 
 impl State {
-    // Sets how many cells of a net stand on each die, and the keys of its cells by it.
+    // Sets the distribution of a net, and the keys of its cells by it.
     fn set_sides(&mut self, members: &Lists, net: usize, after: Sides)
         requires net { net < length members.now }
         requires members { AreMembers members.now (length self.old.dies.items) }
@@ -41,7 +41,7 @@ impl State {
         }
     }
 
-    // Moves a cell from this die to the other in each of its nets.
+    // Moves a cell from this die to the other in the distribution of each of its nets.
     fn turn_nets(&mut self, members: &Lists, nets: &[u32], die: Die)
         requires within { All (λ net. net < length members.now) nets.now }
         requires once { IsDistinct (λ a b. a == b) nets.now }
@@ -116,7 +116,7 @@ impl State {
         self.ranks.show_all(&self.dies, &self.locked);
     }
 
-    // Puts the cells, which are all locked, on these dies, with no cell of a net counted.
+    // Puts the cells, which are all locked, on these dies, with no cell counted in the distributions.
     fn lay(&mut self, dies: &[Die])
         requires many { length dies.now ≡ length self.old.dies.items }
         requires shown { AreShown self.old.dies.items self.old.locked.items self.old.ranks }
@@ -130,7 +130,7 @@ impl State {
         self.ranks.keys.fill(EVEN);
     }
 
-    /// Begins again where each cell stands on its die of another list, with no cell locked.
+    /// Begins again where each cell stands on its die of another list, with all cells free.
     pub fn restart(&mut self, members: &Lists, dies: &[Die])
         requires many { length dies.now ≡ length self.old.dies.items }
         requires few { length self.old.dies.items ≤ 2 ^ 18 }
@@ -147,7 +147,7 @@ impl State {
         self.begin(members);
     }
 
-    /// Counts the cells of each net, and unlocks every cell.
+    /// Counts the distribution of each net, and unlocks every cell.
     pub fn begin(&mut self, members: &Lists)
         requires few { length self.old.dies.items ≤ 2 ^ 18 }
         requires members { AreMembers members.now (length self.old.dies.items) }
@@ -162,7 +162,7 @@ impl State {
         self.unlock_all();
     }
 
-    // Counts the cells of each net on each die.
+    // Counts the distribution of each net.
     fn count(&mut self, members: &Lists)
         requires members { AreMembers members.now (length self.old.dies.items) }
         requires ranked { IsRanked members.now self.old }

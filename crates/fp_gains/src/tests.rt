@@ -13,20 +13,19 @@ use std::alloc::Global;
 use std::process::Abort;
 use std::test::Fail;
 
-/// A technology with one library cell, of area 10.
-fn small_book(rt: &impl Abort, alloc: Global) -> Result<(TechBook, LibId), BuildFault> {
-    let mut book = TechBook::new(alloc);
+/// Adds a technology with one library cell, of area 10.
+fn fill_book(rt: &impl Abort, book: &mut TechBook) -> Result<LibId, BuildFault> {
     let tech = book.add_tech(b"TA")?;
     assert!(rt; tech.0 < book.techs());
     let inverter = book.add_lib(tech, b"INV", 2, 5)?;
     assert!(rt; tech.0 < book.techs());
     assert!(rt; book.has(tech, inverter));
     book.add_pin(tech, inverter, b"A", 1, 1)?;
-    Ok((book, inverter))
+    Ok(inverter)
 }
 
 /// Two rows on each die, which cells may fill, in a frame of area 400.
-fn small_dies(rt: &impl Abort, alloc: Global, book: TechBook) -> Result<Dies, Fail> {
+fn dies_with(rt: &impl Abort, alloc: Global, book: TechBook) -> Result<Dies, Fail> {
     let frame = Frame {
         llx: 0,
         lly: 0,
@@ -37,6 +36,7 @@ fn small_dies(rt: &impl Abort, alloc: Global, book: TechBook) -> Result<Dies, Fa
         size_x: 2,
         size_y: 2,
         spacing: 1,
+        cost: 0,
     };
     assert!(rt; book.techs() == 1);
     let spec = DieSpec {
@@ -48,7 +48,19 @@ fn small_dies(rt: &impl Abort, alloc: Global, book: TechBook) -> Result<Dies, Fa
         height: 5,
         repeat: 2,
     };
-    Ok(Dies::new(alloc, book, frame, spec, spec, terminal)?)
+    Ok(Dies::new(alloc, book, frame, spec, spec, terminal, &[])?)
+}
+
+/// Dies whose book has one library cell, and that cell.
+fn small_dies(rt: &impl Abort, alloc: Global) -> Result<(Dies, LibId), Fail> {
+    let mut book = TechBook::new(alloc);
+    match fill_book(rt, &mut book) {
+        Ok(lib) => Ok((dies_with(rt, alloc, book)?, lib)),
+        Err(fault) => {
+            drop(book);
+            Err(Fail::new(fault))
+        }
+    }
 }
 
 /// Adds a cell for each of these names.
@@ -75,18 +87,34 @@ fn add_net(
     Ok(())
 }
 
-/// A problem of a cell for each of these names, with these nets.
-fn problem(rt: &impl Abort, alloc: Global, cells: &[u8], nets: &[&[u32]]) -> Result<Problem, Fail> {
-    let (book, lib) = small_book(rt, alloc)?;
-    let dies = small_dies(rt, alloc, book)?;
-    let mut builder = ProblemBuilder::new(alloc, dies);
-    add_cells(&mut builder, lib, cells)?;
+/// Adds a cell for each of these names, and these nets.
+fn fill(
+    rt: &impl Abort,
+    builder: &mut ProblemBuilder,
+    lib: LibId,
+    cells: &[u8],
+    nets: &[&[u32]],
+) -> Result<(), BuildFault> {
+    add_cells(builder, lib, cells)?;
     let mut name = b'a';
     for net in nets {
-        add_net(rt, &mut builder, name, net)?;
+        add_net(rt, builder, name, net)?;
         name = name.saturating_add(1);
     }
-    Ok(builder.finish()?)
+    Ok(())
+}
+
+/// A problem of a cell for each of these names, with these nets.
+fn problem(rt: &impl Abort, alloc: Global, cells: &[u8], nets: &[&[u32]]) -> Result<Problem, Fail> {
+    let (dies, lib) = small_dies(rt, alloc)?;
+    let mut builder = ProblemBuilder::new(alloc, dies);
+    match fill(rt, &mut builder, lib, cells, nets) {
+        Ok(()) => Ok(builder.finish()?),
+        Err(fault) => {
+            drop(builder);
+            Err(Fail::new(fault))
+        }
+    }
 }
 
 /// The cells have these gains.
@@ -94,7 +122,10 @@ fn has_gains(rt: &impl Abort, gains: &Gains, expected: &[i64]) {
     for (cell, gain) in expected.iter().enumerate() {
         assert!(rt; cell < 10);
         assert!(rt; cell < gains.dies().len());
-        assert_eq!(rt; gains.gain(CellId(cell as u32)), *gain);
+        assert!(rt;
+            gains.gain(CellId(cell as u32)) == *gain,
+            "the gain of cell {cell}"
+        );
     }
 }
 
@@ -112,6 +143,54 @@ fn flip_all(rt: &impl Abort, problem: &Problem, gains: &mut Gains, cells: &[u32]
     }
 }
 
+/// Flips of cells, one after another, and after them how many nets are cut and each cell's gain.
+type Step<'a> = (&'a [u32], u32, &'a [i64]);
+
+/// From these dies on, each step's flips lead to its cut and its gains.
+fn follow(
+    rt: &impl Abort,
+    alloc: Global,
+    problem: &Problem,
+    dies: &[Die],
+    steps: &[Step],
+) -> Result<(), Fail> {
+    assert!(rt; dies.len() == problem.cells() as usize);
+    let mut gains = Gains::new(alloc, problem, dies)?;
+    for (flips, nets, expected) in steps {
+        flip_all(rt, problem, &mut gains, flips);
+        has_cut(rt, problem, &gains, *nets);
+        has_gains(rt, &gains, expected);
+    }
+    drop(gains);
+    Ok(())
+}
+
+#[test]
+fn a_cell_that_comes_twice_in_a_net_counts_once(rt: HostRuntime) -> Result<(), Fail> {
+    let problem = problem(&rt, rt.alloc(), b"uv", &[&[0, 0, 1]])?;
+    let dies = [Die::Top, Die::Bottom];
+    let steps: [Step; 2] = [(&[], 1, &[1, 1]), (&[0], 0, &[-1, -1])];
+    let followed = follow(&rt, rt.alloc(), &problem, &dies, &steps);
+    drop(problem);
+    followed
+}
+
+#[test]
+fn flips_change_gains_and_go_back(rt: HostRuntime) -> Result<(), Fail> {
+    let nets: [&[u32]; 4] = [&[0, 1, 2], &[2, 3], &[0, 3], &[1, 1]];
+    let problem = problem(&rt, rt.alloc(), b"uvwx", &nets)?;
+    let dies = [Die::Top, Die::Top, Die::Bottom, Die::Bottom];
+    let steps: [Step; 4] = [
+        (&[], 2, &[1, 0, 0, 0]),
+        (&[0], 1, &[-1, 1, -1, -2]),
+        (&[1], 0, &[-2, -1, -2, -2]),
+        (&[1, 0], 2, &[1, 0, 0, 0]),
+    ];
+    let followed = follow(&rt, rt.alloc(), &problem, &dies, &steps);
+    drop(problem);
+    followed
+}
+
 /// The best cell of all, and the best of those but the first.
 fn best_two(problem: &Problem, gains: &mut Gains) -> [Option<CellId>; 2]
     requires of_problem { IsGainsOf problem.now gains.old }
@@ -123,55 +202,23 @@ fn best_two(problem: &Problem, gains: &mut Gains) -> [Option<CellId>; 2]
     [best, gains.best_movable(problem, &caps)]
 }
 
+/// Of three cells in a row of two nets, the first is the best; once it is locked, the second is.
+fn lock_the_best(rt: &impl Abort, alloc: Global, problem: &Problem) -> Result<(), Fail> {
+    assert!(rt; problem.cells() == 3);
+    let mut gains = Gains::new(alloc, problem, &[Die::Top, Die::Bottom, Die::Bottom])?;
+    has_gains(rt, &gains, &[1, 0, -1]);
+    let best = best_two(problem, &mut gains);
+    drop(gains);
+    assert_eq!(rt; best, [Some(CellId(0)), Some(CellId(1))]);
+    Ok(())
+}
+
 #[test]
 fn a_locked_cell_is_not_the_best(rt: HostRuntime) -> Result<(), Fail> {
     let problem = problem(&rt, rt.alloc(), b"uvw", &[&[0, 1], &[1, 2]])?;
-    assert!(&rt; problem.cells() == 3);
-    let dies = [Die::Top, Die::Bottom, Die::Bottom];
-    let mut gains = Gains::new(rt.alloc(), &problem, &dies)?;
-    has_gains(&rt, &gains, &[1, 0, -1]);
-    assert_eq!(&rt;
-        best_two(&problem, &mut gains),
-        [Some(CellId(0)), Some(CellId(1))]
-    );
-    Ok(())
-}
-
-#[test]
-fn a_cell_that_comes_twice_in_a_net_counts_once(rt: HostRuntime) -> Result<(), Fail> {
-    let problem = problem(&rt, rt.alloc(), b"uv", &[&[0, 0, 1]])?;
-    assert!(&rt; problem.cells() == 2);
-    let mut gains = Gains::new(rt.alloc(), &problem, &[Die::Top, Die::Bottom])?;
-    has_gains(&rt, &gains, &[1, 1]);
-    flip_all(&rt, &problem, &mut gains, &[0]);
-    has_gains(&rt, &gains, &[-1, -1]);
-    Ok(())
-}
-
-#[test]
-fn flips_change_gains_and_go_back(rt: HostRuntime) -> Result<(), Fail> {
-    let nets: [&[u32]; 4] = [&[0, 1, 2], &[2, 3], &[0, 3], &[1, 1]];
-    let problem = problem(&rt, rt.alloc(), b"uvwx", &nets)?;
-    assert!(&rt; problem.cells() == 4);
-    let dies = [Die::Top, Die::Top, Die::Bottom, Die::Bottom];
-    let mut gains = Gains::new(rt.alloc(), &problem, &dies)?;
-    follow_flips(&rt, &problem, &mut gains);
-    Ok(())
-}
-
-/// Flips one after another, each with the cut nets and the gains after it.
-fn follow_flips(rt: &impl Abort, problem: &Problem, gains: &mut Gains) {
-    let steps: [(&[u32], u32, [i64; 4]); 4] = [
-        (&[], 2, [1, 0, 0, 0]),
-        (&[0], 1, [-1, 1, -1, -2]),
-        (&[1], 0, [-2, -1, -2, -2]),
-        (&[1, 0], 2, [1, 0, 0, 0]),
-    ];
-    for (flips, nets, expected) in &steps {
-        flip_all(rt, problem, gains, flips);
-        has_cut(rt, problem, gains, *nets);
-        has_gains(rt, gains, expected);
-    }
+    let locked = lock_the_best(&rt, rt.alloc(), &problem);
+    drop(problem);
+    locked
 }
 
 /// A cell with a key.
@@ -203,5 +250,6 @@ fn first_is_the_best_of_a_front(rt: HostRuntime) -> Result<(), Fail> {
         assert!(rt; count <= tournament.len());
         assert_eq!(rt; tournament.first(count), *best);
     }
+    drop(tournament);
     Ok(())
 }

@@ -1,4 +1,6 @@
-//! A tournament over slots, each with a cell and a key: a greater key wins, and a lesser cell among equal keys.
+//! A tournament tree over slots, each with a cell and a key: a greater key wins, and a lesser cell among equal keys.
+//!
+//! After the tree selection of D. E. Knuth, "The Art of Computer Programming", volume 3, 1973, with four players to a match.
 
 ghost use Rattle.std.specs.Prelude.{◌≡◌, ◌+◌, ◌-◌, ◌*◌, ◌/◌, ◌%◌, ◌<◌, ◌≤◌, ◌^◌, ◌++◌, IfOk, length, set, map, drop, replicate};
 ghost use Rattle.std.specs.List.{All};
@@ -22,9 +24,9 @@ const CELLS: u64 = 1 << 18;
 const PLAYERS: usize = 4;
 
 /// So many slots, each with a cell and a key. Setting a key and asking for the best of the first slots take a number of steps that is
-/// logarithmic in the slots. Our own: a slot is one number, its rank, which is greater for a better leader. The ranks stand in one
-/// flat list, of which node k holds the greatest of the nodes 4k + 1 to 4k + 4. The slots stand behind the inner nodes, and the at
-/// most two nodes behind the slots, which fill the last match, hold 0.
+/// logarithmic in the slots. A slot is one number, its rank, which is greater for a better leader. The ranks stand in one flat list, of
+/// which node k holds the greatest of the nodes 4k + 1 to 4k + 4. The slots stand behind the inner nodes, and the at most two nodes
+/// behind the slots, which fill the last match, hold 0.
 #[derive(Drop)]
 pub struct Tournament {
     inner: usize,

@@ -1,66 +1,16 @@
--- The areas of cells, one cell after the other; and after a move.
-use Rattle.std.specs.Prelude.{◌≡◌, ℕ, suc, ◌+◌, ◌<◌, ◌≤◌, List, length, drop, IsTrue}
-use Rattle.std.proofs.Common.{refl, ap, sym, subst, ◌∙◌, drop-cons, arith}
-use Rattle.std.proofs.lemmas.List.{at_drop_all}
+-- The areas of both dies after a move.
+use Rattle.std.specs.Prelude.{◌≡◌, ℕ, ◌+◌, ◌-◌, ◌<◌, ◌≤◌, List, length, IsTrue}
+use Rattle.std.proofs.Common.{ap, sym, subst, ◌∙◌, arith}
 use Rattle.std.proofs.lemmas.Bool.{and_parts}
 use Rattle.fp_base.specs.declared.ids.Die.{Die}
 use Rattle.fp_base.specs.declared.ids.Die.TheVariants.{Top, Bottom}
 use Rattle.fp_netlist.specs.Netlist.{Netlist}
 use Rattle.fp_netlist.specs.Points.{area}
 use Rattle.fp_place.specs.Places.{die_at, other_die}
-use Rattle.fp_place.specs.Areas.{fits, keeps, area_from, area_on}
-use Rattle.fp_place.specs.Held.{Held, held_on, with_area, without_area, has_room}
-use Rattle.fp_place.specs.Settled.{far_die, flipped, may_move, KeepRules}
-use Rattle.fp_part.specs.MoveLaws.{area_if, area_left, area_entered, keeps_less}
-use Rattle.fp_part.specs.Walks.{held_by}
-
--- the areas of the cells before a number are held
-abbrev pub AreHeldBelow : Netlist → List Die → Held → ℕ → Type 0
-AreHeldBelow p dies held cell = (die : Die) → held_on held die + area_from p die cell (drop cell dies) ≡ area_on p die dies
-
--- one more cell
-area_next : (p : Netlist) (die : Die) (dies : List Die) (cell : ℕ) → cell < length dies
-    → area_from p die cell (drop cell dies) ≡ area_if p die cell (die_at dies cell) + area_from p die (cell + 1) (drop (cell + 1) dies)
-unfolding area_from
-area_next p die dies cell below =
-    let next : suc cell ≡ cell + 1 = omega arith in
-    ap (area_from p die cell) (drop-cons dies cell Top below)
-    ∙ ap (λ j. area_if p die cell (die_at dies cell) + area_from p die (cell + 1) (drop j dies)) next
-
-own_area : (p : Netlist) (die : Die) (cell : ℕ) → area_if p die cell die ≡ area p cell die
-own_area p Top cell = refl
-own_area p Bottom cell = refl
-
-held_next : (p : Netlist) (held : Held) (on die : Die) (cell : ℕ) → held_on (with_area held on (area p cell on)) die ≡ held_on held die + area_if p die cell on
-held_next p held Top Top cell = refl
-held_next p held Top Bottom cell = omega arith
-held_next p held Bottom Top cell = omega arith
-held_next p held Bottom Bottom cell = refl
-
-pub more_held : (p : Netlist) (dies : List Die) (held next : Held) (cell : ℕ) → AreHeldBelow p dies held cell → cell < length dies
-    → next ≡ with_area held (die_at dies cell) (area p cell (die_at dies cell)) → AreHeldBelow p dies next (cell + 1)
-more_held p dies held next cell before below is die =
-    let added : held_on next die ≡ held_on held die + area_if p die cell (die_at dies cell) =
-    ap (λ h. held_on h die) is ∙ held_next p held (die_at dies cell) die cell in
-    omega (arith, added, before die, area_next p die dies cell below)
-
--- where all cells keep a percent, there is room for the next one
-pub room_below : (p : Netlist) (dies : List Die) (held : Held) (cell : ℕ) → KeepRules p dies → AreHeldBelow p dies held cell → cell < length dies
-    → IsTrue (has_room p held cell (die_at dies cell))
-room_below p dies held cell rules before below =
-    let die = die_at dies cell in
-    keeps_less p.plan die (held_on held die + area p cell die) (area_on p die dies)
-    (omega (arith, before die, area_next p die dies cell below, own_area p die cell)) (rules.percents die)
-
-same_held : (a b : Held) → a.top ≡ b.top → a.bottom ≡ b.bottom → a ≡ b
-same_held a b top bottom = ap (λ n. record a { top = n }) top ∙ ap (λ n. record b { bottom = n }) bottom
-
-pub all_held : (p : Netlist) (dies : List Die) (held : Held) (cell : ℕ) → AreHeldBelow p dies held cell → length dies ≤ cell → held ≡ held_by p dies
-unfolding area_from
-all_held p dies held cell before past = same_held held (held_by p dies) (whole Top) (whole Bottom)
-  where
-    whole : (die : Die) → held_on held die ≡ area_on p die dies
-    whole die = omega (arith, before die, at_drop_all (area_from p die cell) dies cell past)
+use Rattle.fp_place.specs.Areas.{fits, keeps, area_on}
+use Rattle.fp_place.specs.Held.{Held, held_on, held_by, with_area, without_area, has_room}
+use Rattle.fp_place.specs.MoveLaws.{area_left, area_entered}
+use Rattle.fp_place.specs.Settled.{far_die, flipped, may_move}
 
 -- there is room for a cell that may move
 pub room_to_move : (p : Netlist) (dies : List Die) (held : Held) (cell : ℕ) (far : Die) → held ≡ held_by p dies → far ≡ far_die dies cell → IsTrue (may_move p dies cell)
@@ -111,26 +61,9 @@ held_after p dies cell own far held added taken is is_taken =
     by : (die : Die) → area_on p die (flipped dies cell) + area p cell die ≡ area_on p die dies
         → area_on p (other_die die) (flipped dies cell) ≡ area_on p (other_die die) dies + area p cell (other_die die)
         → without_area (with_area (held_by p dies) (other_die die) (area p cell (other_die die))) die (area p cell die) ≡ held_by p (flipped dies cell)
-    by Top left entered = same_held _ (held_by p (flipped dies cell)) (omega (arith, left)) (sym entered)
-    by Bottom left entered = same_held _ (held_by p (flipped dies cell)) (sym entered) (omega (arith, left))
-
--- a cell for which there is room leaves both percents kept
-pub still_kept : (p : Netlist) (held : Held) (cell : ℕ) (on die : Die) → IsTrue (has_room p held cell on) → IsTrue (keeps p.plan die (held_on held die))
-    → IsTrue (keeps p.plan die (held_on (with_area held on (area p cell on)) die))
-still_kept p held cell Top Top room kept = room
-still_kept p held cell Top Bottom room kept = kept
-still_kept p held cell Bottom Top room kept = kept
-still_kept p held cell Bottom Bottom room kept = room
-
--- cells that were put on both dies one by one, each where it fits and has room, keep the rules
-pub all_kept : (p : Netlist) (dies : List Die) (held : Held) (cell : ℕ) → length dies ≡ length p.cells → length dies ≤ cell → AreHeldBelow p dies held cell
-    → ((k : ℕ) → k < cell → IsTrue (fits p k (die_at dies k))) → ((die : Die) → IsTrue (keeps p.plan die (held_on held die))) → KeepRules p dies
-all_kept p dies held cell many past all fit kept = record {
-  cells = many;
-  fitting = λ k below. fit k (omega (arith, below, many, past));
-  percents = λ die. by die (subst (λ h. IsTrue (keeps p.plan die (held_on h die))) (all_held p dies held cell all past) (kept die));
-}
-  where
-    by : (die : Die) → IsTrue (keeps p.plan die (held_on (held_by p dies) die)) → IsTrue (keeps p.plan die (area_on p die dies))
-    by Top is = is
-    by Bottom is = is
+    by Top left entered =
+        let less : area_on p Top dies - area p cell Top ≡ area_on p Top (flipped dies cell) = omega (arith, left) in
+        cc (less, entered)
+    by Bottom left entered =
+        let less : area_on p Bottom dies - area p cell Bottom ≡ area_on p Bottom (flipped dies cell) = omega (arith, left) in
+        cc (less, entered)

@@ -7,10 +7,9 @@ use Rattle.fp_netlist.specs.Netlist.{Netlist}
 use Rattle.fp_netlist.specs.Points.{area}
 use Rattle.fp_place.specs.Areas.{fits, keeps, area_on}
 use Rattle.fp_place.specs.Cut.{cut}
-use Rattle.fp_place.specs.Held.{Held, held_on}
+use Rattle.fp_place.specs.Held.{Held, held_on, held_by}
 use Rattle.fp_place.specs.Settled.{far_die, flipped, may_move, or_lower, first_least, is_moved, is_candidate, next_move}
 use Rattle.fp_gains.specs.Gained.{Gained, is_movable}
-use Rattle.fp_part.specs.Walks.{held_by}
 
 -- the first least number is the same for tests that agree
 first_least_same : (a b : ℕ → Bool) (cost : ℕ → ℕ) (bound : ℕ) → ((number : ℕ) → a number ≡ b number) → first_least a cost bound ≡ first_least b cost bound

@@ -1,3 +1,2 @@
-pub mod MoveLaws
 pub mod SettledLaws
-pub mod Walks
+pub mod Partitions

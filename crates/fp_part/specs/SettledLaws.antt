@@ -1,16 +1,16 @@
--- Laws of settled dies: they keep the rules, have no more cut nets than the dies before, and no single move that may be made leaves fewer
--- nets cut. To settle them again changes nothing.
-use Rattle.std.specs.Prelude.{◌≡◌, ℕ, zero, suc, ◌<◌, ◌≤◌, Bool, true, false, ◌&&◌, not, nat_lt, if◌then◌else◌, List, [], ◌∷◌, length, set, IsTrue, Option, Some, None, MatchOption, ◌⊎◌}
+-- Laws of settled dies: they keep the rules, have no more cut nets than the dies before, and no single move that keeps the rules leaves
+-- fewer nets cut. To settle them again changes nothing.
+use Rattle.std.specs.Prelude.{◌≡◌, ℕ, zero, suc, ◌<◌, ◌≤◌, Bool, true, false, not, nat_lt, if◌then◌else◌, List, [], ◌∷◌, length, set, IsTrue, Option, Some, None}
 use Rattle.std.specs.List.{AllByRecursion}
-use Rattle.std.proofs.Common.{refl, sym, subst, ◌∙◌, ⊎_elim, arith}
+use Rattle.std.proofs.Common.{refl, sym, subst, ◌∙◌, arith}
 use Rattle.std.proofs.lemmas.List.{get_or-replicate}
-use Rattle.std.proofs.lemmas.Bool.{and_parts, and_from, and_cases, cond_both, cond-true, cond-false, cases_order, false≢true, lt-ltb, le-ltb, ltb-false, ltb-true, not_from_false}
+use Rattle.std.proofs.lemmas.Bool.{and_parts, and_from, cond_both, cond-true, cond-false, false≢true, lt-ltb, le-ltb, ltb-false, ltb-true, not_from_false}
 use Rattle.fp_base.specs.declared.ids.Die.{Die}
 use Rattle.fp_netlist.specs.Netlist.{Netlist}
 use Rattle.fp_place.specs.Cut.{cut}
 use Rattle.fp_place.specs.FirstLeast.{first_least_found, first_least_none}
 use Rattle.fp_place.specs.Settled.{flipped, may_move, is_moved, is_candidate, next_move, with_move, moves, none_moved, pass, first_fewest, best, settled_in, settled, KeepRules}
-use Rattle.fp_part.specs.MoveLaws.{move_keeps}
+use Rattle.fp_place.specs.MoveLaws.{move_keeps, keeping_may_move}
 
 -- the next move is a candidate
 pub record IsNext (p : Netlist) (dies : List Die) (moved : List Bool) (cell : ℕ) : Type 0 where
@@ -133,14 +133,14 @@ settled_as_they_are p dies no_less =
 pub record SettlingKeeps (p : Netlist) (from dies : List Die) : Type 0 where
   pub rules : KeepRules p dies
   pub no_more_cut : cut p dies ≤ cut p from
-  pub steady : (cell : ℕ) → cell < length p.cells → IsTrue (may_move p dies cell) → cut p dies ≤ cut p (flipped dies cell)
+  pub steady : (cell : ℕ) → cell < length p.cells → KeepRules p (flipped dies cell) → cut p dies ≤ cut p (flipped dies cell)
 
 pub settling_keeps : (p : Netlist) (from : List Die) → KeepRules p from → SettlingKeeps p from (settled p from)
 unfolding settled
 settling_keeps p from rules = record {
   rules = settled_keep (KeepRules p) p (suc (cut p from)) from (best_keeps p) rules;
   no_more_cut = settled_keep (λ dies. cut p dies ≤ cut p from) p (suc (cut p from)) from (λ dies at_most. omega (arith, at_most, best_at_most p dies)) (omega arith);
-  steady = λ cell below may. omega (arith, no_pass_lowers p from, best_of_moves p (settled p from) cell below may);
+  steady = λ cell below kept. omega (arith, no_pass_lowers p from, best_of_moves p (settled p from) cell below (keeping_may_move p (settled p from) cell below kept));
 }
 
 -- to settle twice is to settle once

@@ -2,7 +2,7 @@
 
 ghost use Rattle.std.specs.Prelude.{◌≡◌};
 ghost use Rattle.fp_place.specs.Settled.{KeepRules};
-ghost use Rattle.fp_part.specs.Walks.{held_by};
+ghost use Rattle.fp_place.specs.Held.{held_by};
 
 use fp_base::{CellId, Die};
 use fp_netlist::Problem;

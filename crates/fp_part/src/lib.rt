@@ -1,9 +1,9 @@
-//! Dies that are settled: passes of single moves, each pass to the first of its dies with the fewest cut nets, after Fiduccia and Mattheyses.
+//! Dies settled by Fiduccia-Mattheyses passes: single moves of cells between the two dies, of which each pass keeps its best prefix.
 #![tactic(auto)]
 
 mod areas;
+mod partition;
 mod passes;
-mod walk;
 
 pub use passes::settle;
 

@@ -1,20 +1,15 @@
 //! What no clause says: that memory is enough, and that the clauses mean what was meant.
 
-ghost use Rattle.std.specs.Prelude.{◌≡◌, ◌<◌, ◌&&◌, IsTrue, length};
-ghost use Rattle.fp_place.specs.Areas.{fits};
-ghost use Rattle.fp_place.specs.Held.{has_room};
-ghost use Rattle.fp_place.specs.Settled.{KeepRules};
-
 use crate::settle;
 use fp_base::{CellId, Die, LibId, TechId};
 use fp_netlist::{Problem, ProblemBuilder};
-use fp_place::Caps;
+use fp_place::keeps_rules;
 use fp_tech::{BuildFault, DieSpec, Dies, Frame, TechBook, TermSpec};
 use std::alloc::Global;
 use std::process::Abort;
 use std::test::Fail;
 
-/// A technology with one library cell, of this width and 10 high.
+/// Adds a technology with one library cell, of this width and 10 high.
 fn add_tech(
     rt: &impl Abort,
     book: &mut TechBook,
@@ -31,16 +26,15 @@ fn add_tech(
     Ok(lib)
 }
 
-/// Two technologies, with a library cell of area 40 and of area 50.
-fn small_book(rt: &impl Abort, alloc: Global) -> Result<(TechBook, LibId), BuildFault> {
-    let mut book = TechBook::new(alloc);
-    let lib = add_tech(rt, &mut book, b"TA", 4)?;
-    add_tech(rt, &mut book, b"TB", 5)?;
-    Ok((book, lib))
+/// Adds two technologies, with a library cell of area 40 and of area 50.
+fn fill_book(rt: &impl Abort, book: &mut TechBook) -> Result<LibId, BuildFault> {
+    let lib = add_tech(rt, book, b"TA", 4)?;
+    add_tech(rt, book, b"TB", 5)?;
+    Ok(lib)
 }
 
-/// Dies in a frame of area 400, with a percent for each.
-fn small_dies(
+/// Two rows on each die in a frame of area 400, with a percent for each die.
+fn dies_with(
     rt: &impl Abort,
     alloc: Global,
     book: TechBook,
@@ -58,6 +52,7 @@ fn small_dies(
         size_x: 2,
         size_y: 2,
         spacing: 1,
+        cost: 0,
     };
     assert!(rt; book.techs() == 2);
     let top = DieSpec {
@@ -74,10 +69,22 @@ fn small_dies(
         tech: TechId(1),
         ..top
     };
-    Ok(Dies::new(alloc, book, frame, top, bottom, terminal)?)
+    Ok(Dies::new(alloc, book, frame, top, bottom, terminal, &[])?)
 }
 
-/// Adds so many cells.
+/// Dies with these percents, whose book has one library cell, and that cell.
+fn small_dies(rt: &impl Abort, alloc: Global, percents: (u32, u32)) -> Result<(Dies, LibId), Fail> {
+    let mut book = TechBook::new(alloc);
+    match fill_book(rt, &mut book) {
+        Ok(lib) => Ok((dies_with(rt, alloc, book, percents)?, lib)),
+        Err(fault) => {
+            drop(book);
+            Err(Fail::new(fault))
+        }
+    }
+}
+
+/// Adds a cell for each of these names.
 fn add_cells(
     builder: &mut ProblemBuilder,
     lib: LibId,
@@ -105,7 +112,24 @@ fn add_net(
     Ok(())
 }
 
-/// A problem of so many cells, with these nets and percents.
+/// Adds a cell for each of these names, and these nets.
+fn fill(
+    rt: &impl Abort,
+    builder: &mut ProblemBuilder,
+    lib: LibId,
+    names: &[[u8; 1]],
+    nets: &[(u32, u32)],
+) -> Result<(), BuildFault> {
+    add_cells(builder, lib, names)?;
+    let mut name = b'a';
+    for net in nets {
+        add_net(rt, builder, name, *net)?;
+        name = name.saturating_add(1);
+    }
+    Ok(())
+}
+
+/// A problem of a cell for each of these names, with these nets and percents.
 fn problem(
     rt: &impl Abort,
     alloc: Global,
@@ -113,42 +137,15 @@ fn problem(
     nets: &[(u32, u32)],
     percents: (u32, u32),
 ) -> Result<Problem, Fail> {
-    let (book, lib) = small_book(rt, alloc)?;
-    let dies = small_dies(rt, alloc, book, percents)?;
+    let (dies, lib) = small_dies(rt, alloc, percents)?;
     let mut builder = ProblemBuilder::new(alloc, dies);
-    add_cells(&mut builder, lib, names)?;
-    let mut name = b'a';
-    for net in nets {
-        add_net(rt, &mut builder, name, *net)?;
-        name = name.saturating_add(1);
-    }
-    Ok(builder.finish()?)
-}
-
-/// Whether a cell fits a die and has room there.
-fn takes(problem: &Problem, caps: &Caps, cell: CellId, die: Die) -> bool
-    requires { cell.0 < length problem.now.cells }
-    ensures { result ≡ (fits problem.now cell.0 die && has_room problem.now caps.now cell.0 die) }
-{
-    let rows = problem.dies().spec(die).height;
-    problem.height(cell, die) <= i64::from(rows) && caps.room(problem, cell, die)
-}
-
-/// Whether dies keep the rules of heights and percents.
-fn keep_rules(problem: &Problem, dies: &[Die]) -> bool
-    requires { length dies.now ≡ length problem.now.cells }
-    ensures { IsTrue result → KeepRules problem.now dies.now }
-{
-    let mut caps = Caps::empty();
-    for number in 0..problem.cells() {
-        let cell = CellId(number);
-        let die = dies[number as usize];
-        if !takes(problem, &caps, cell, die) {
-            return false;
+    match fill(rt, &mut builder, lib, names, nets) {
+        Ok(()) => Ok(builder.finish()?),
+        Err(fault) => {
+            drop(builder);
+            Err(Fail::new(fault))
         }
-        caps.add(problem, cell, die);
     }
-    true
 }
 
 /// These dies settle so.
@@ -160,7 +157,7 @@ fn settles(
     expected: &[Die],
 ) -> Result<(), Fail> {
     assert!(rt; from.len() == problem.cells() as usize);
-    assert!(rt; keep_rules(problem, from));
+    assert!(rt; keeps_rules(problem, from));
     let dies = settle(alloc, problem, from)?;
     assert_eq!(rt; dies.as_slice(), expected);
     Ok(())
@@ -176,7 +173,9 @@ fn cells_of_two_nets_join_where_most_of_them_are(rt: HostRuntime) -> Result<(), 
         (100, 100),
     )?;
     let from = [Die::Top, Die::Bottom, Die::Bottom];
-    settles(&rt, rt.alloc(), &problem, &from, &[Die::Bottom; 3])
+    let settled = settles(&rt, rt.alloc(), &problem, &from, &[Die::Bottom; 3]);
+    drop(problem);
+    settled
 }
 
 /// Two cells of one net, on these dies, join on a die.
@@ -188,7 +187,9 @@ fn join(
     joined: Die,
 ) -> Result<(), Fail> {
     let problem = problem(rt, alloc, &[*b"u", *b"v"], &[(0, 1)], percents)?;
-    settles(rt, alloc, &problem, &[from.0, from.1], &[joined, joined])
+    let settled = settles(rt, alloc, &problem, &[from.0, from.1], &[joined, joined]);
+    drop(problem);
+    settled
 }
 
 #[test]

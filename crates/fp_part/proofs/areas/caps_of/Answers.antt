@@ -1,5 +1,5 @@
 use Rattle.std.proofs.Common.{arith}
-use Rattle.fp_part.proofs.AreaLemmas.{room_below, more_held, all_held}
+use Rattle.fp_place.specs.HeldLaws.{room_below, more_held, all_held}
 use Rattle.fp_part.proofs.areas.caps_of.Goals as goal
 
 pub add-requires-clause-room : goal.add-requires-clause-room

@@ -1,4 +1,4 @@
-use Rattle.std.proofs.Common.{◌≡◌, ◌<◌, ◌∙◌, length, map, sym, ap, subst}
+use Rattle.std.proofs.Common.{◌∙◌, length, map, sym, ap, subst}
 use Rattle.std.proofs.lemmas.List.{length-map}
 use Rattle.fp_gains.specs.Ordered.{IsDealt}
 use Rattle.fp_gains.specs.OrderParts.{number_of, key_in, HoldPlaces, order_as}

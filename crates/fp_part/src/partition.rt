@@ -1,4 +1,4 @@
-//! A pass of single moves.
+//! A partition of the cells into two dies, on its way through a Fiduccia-Mattheyses pass.
 
 ghost use Rattle.std.specs.Prelude.{◌≡◌, ◌<◌, ◌≤ℤ◌, ◌+ℤ◌, ◌^◌, All, IfOk, List, Some, [], length, pos};
 ghost use Rattle.std.specs.Option.{option_map};
@@ -6,7 +6,7 @@ ghost use Rattle.fp_base.specs.declared.ids.Die.{Die};
 ghost use Rattle.fp_netlist.specs.Netlist.{IsSound, Netlist};
 ghost use Rattle.fp_place.specs.Settled.{best, next_move, KeepRules};
 ghost use Rattle.fp_gains.specs.Gained.{IsGainsOf};
-ghost use Rattle.fp_part.specs.Walks.{after_moves, fewer, IsReady, IsBegun, IsMoved, Advances, IsRun};
+ghost use Rattle.fp_part.specs.Partitions.{after_moves, fewer, IsReady, IsBegun, IsMoved, Advances, IsRun};
 
 use crate::areas::caps_of;
 use fp_base::{CellId, Die, NoMemory};
@@ -15,17 +15,17 @@ use fp_netlist::Problem;
 use fp_place::{Caps, cut, other};
 use std::alloc::Global;
 
-/// The fewest cut nets of a pass so far, and after how many moves they were first reached.
+/// The best prefix of a pass's moves so far: the fewest nets cut, and after how many moves they were first reached.
 #[derive(Clone, Copy)]
 pub struct Fewest {
     pub cut: u32,
     pub moves: usize,
 }
 
-/// The dies in a pass, with the area that their cells take and the number of nets that they cut; the dies that the pass began with, and
-/// the cells that it moved, in the order of the moves.
+/// The dies of the cells in a pass, with the gains of the cells, the area that each die's cells take and the number of cut nets; and of the
+/// pass the dies that it began with, the cells that it moved, in the order of the moves, and their best prefix.
 #[derive(Drop)]
-pub struct Walk {
+pub struct Partition {
     pub gains: Gains,
     pub start: Vec<Die>,
     pub caps: Caps,
@@ -34,18 +34,19 @@ pub struct Walk {
     pub fewest: Fewest,
 }
 
-impl Walk {
-    /// The beginning of a pass from these dies.
-    pub fn new(alloc: Global, problem: &Problem, from: &[Die]) -> Result<Walk, NoMemory>
+impl Partition {
+    /// These dies, where a pass begins: no cell is moved, and all are free.
+    pub fn new(alloc: Global, problem: &Problem, from: &[Die]) -> Result<Partition, NoMemory>
         requires { KeepRules problem.now from.now }
         ensures begun { IfOk result (IsBegun problem.now) }
-        ensures dies { IfOk result (λ walk. walk.gains.dies ≡ from.now) }
+        ensures dies { IfOk result (λ partition. partition.gains.dies ≡ from.now) }
     {
+        let start = Vec::from_slice(alloc, from)?;
         let gains = Gains::new(alloc, problem, from)?;
         let cut = cut(problem, from);
-        Ok(Walk {
+        Ok(Partition {
             gains,
-            start: Vec::from_slice(alloc, from)?,
+            start,
             caps: caps_of(problem, from),
             cut,
             moved: Vec::new(alloc),
@@ -53,7 +54,7 @@ impl Walk {
         })
     }
 
-    // Moves the next cell to its other die. It is locked first: then no order has to show its new key.
+    // Moves the base cell to its other die. It is locked first: then no order has to show its new gain.
     fn move_cell(&mut self, problem: &Problem, cell: CellId)
         requires sound { IsSound problem.now }
         requires cell { cell.0 < length problem.now.cells }
@@ -73,7 +74,7 @@ impl Walk {
         self.cut = less(self.cut, gain);
     }
 
-    // One move more.
+    // One move more, of the base cell.
     fn advance(&mut self, problem: &Problem, cell: CellId) -> Result<(), NoMemory>
         requires sound { IsSound problem.now }
         requires ready { IsReady problem.now self.old }
@@ -86,7 +87,7 @@ impl Walk {
         Ok(())
     }
 
-    // The cell that moves next.
+    // The base cell of the next move: a free cell of greatest gain that fits its other die and has room there, the least among ties.
     fn next_cell(&self, problem: &Problem) -> Option<CellId>
         requires { IsReady problem.now self.now }
         ensures { option_map (λ cell. cell.0) result ≡ next_move problem.now self.now.gains.dies self.now.gains.locked }
@@ -94,7 +95,7 @@ impl Walk {
         self.gains.best_movable(problem, &self.caps)
     }
 
-    // The moves of a pass, as far as a cell may move.
+    // The moves of a pass, until no free cell may move.
     fn run(&mut self, problem: &Problem) -> Result<(), NoMemory>
         requires { IsBegun problem.now self.old }
         ensures { IfOk result (λ _. IsRun problem.now self.old.gains.dies self.new) }
@@ -108,7 +109,7 @@ impl Walk {
         Ok(())
     }
 
-    /// A whole pass, and then the first of its dies with the fewest cut nets, where the next pass begins.
+    /// A whole pass, and then the dies after its best prefix, where the next pass begins.
     pub fn pass(&mut self, problem: &Problem) -> Result<(), NoMemory>
         requires { IsBegun problem.now self.old }
         ensures begun { IfOk result (λ _. IsBegun problem.now self.new) }
@@ -125,7 +126,7 @@ impl Walk {
     }
 }
 
-// What is left of a number of cut nets after a move of this gain.
+// How many nets are cut after a move of this gain.
 fn less(cut: u32, gain: i64) -> u32
     requires low { gain ≤ℤ pos cut }
     requires high { pos cut ≤ℤ (gain +ℤ pos (2 ^ 18)) }
@@ -134,7 +135,7 @@ fn less(cut: u32, gain: i64) -> u32
     (i64::from(cut) - gain) as u32
 }
 
-// The fewer of the fewest cut nets so far and those after these moves.
+// The best prefix after these moves, which leave so many nets cut: a longer one has to leave fewer.
 fn fewer(fewest: Fewest, cut: u32, moves: usize) -> Fewest
     ensures { result ≡ fewer fewest cut moves }
 {

@@ -2,9 +2,9 @@ use Rattle.std.proofs.Common.{◌≡◌, ◌-◌, ◌+◌, suc, zero, Some, leng
 use Rattle.std.specs.Option.{option_map}
 use Rattle.fp_base.specs.declared.ids.CellId.{CellId}
 use Rattle.fp_place.specs.Settled.{next_move}
-use Rattle.fp_part.specs.Walks.{IsOnWay}
+use Rattle.fp_part.specs.Partitions.{IsOnWay}
 use Rattle.fp_part.proofs.RunLemmas.{begin, move_on, stop, all_moved}
-use Rattle.fp_part.proofs.walk.Walk.run.Goals as goal
+use Rattle.fp_part.proofs.partition.Partition.run.Goals as goal
 
 pub loop-init : goal.loop-init
 loop-init c =

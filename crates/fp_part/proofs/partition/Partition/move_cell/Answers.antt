@@ -1,15 +1,15 @@
-use Rattle.std.proofs.Common.{◌≡◌, pos, ◌+ℤ◌, ◌≤ℤ◌, FitsSigned, w64, true, length, set, ap, sym, subst, ◌∙◌, arith, rules}
+use Rattle.std.proofs.Common.{◌≡◌, pos, ◌+ℤ◌, ◌≤ℤ◌, FitsSigned, w64, true, length, ap, sym, subst, ◌∙◌, arith, rules}
 use Rattle.std.proofs.lemmas.Int.{to_z-of_z}
 use Rattle.std.proofs.lemmas.List.{length-set}
 use Rattle.fp_place.specs.Cut.{cut}
 use Rattle.fp_place.specs.Places.{die_at, other_die}
 use Rattle.fp_place.specs.Settled.{flipped, KeepRules}
-use Rattle.fp_part.specs.MoveLaws.{move_keeps}
+use Rattle.fp_place.specs.MoveLaws.{move_keeps}
 use Rattle.fp_part.specs.SettledLaws.{next_is}
-use Rattle.fp_part.specs.Walks.{held_by}
+use Rattle.fp_place.specs.Held.{held_by}
 use Rattle.fp_part.proofs.AreaLemmas.{room_to_move, still_held, held_after}
 use Rattle.fp_part.proofs.StepLemmas.{gain_high, cut_after}
-use Rattle.fp_part.proofs.walk.Walk.move_cell.Goals as goal
+use Rattle.fp_part.proofs.partition.Partition.move_cell.Goals as goal
 
 pub add-requires-clause-room : goal.add-requires-clause-room
 add-requires-clause-room c =

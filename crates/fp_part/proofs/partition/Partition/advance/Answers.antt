@@ -1,5 +1,5 @@
 use Rattle.fp_part.specs.SettledLaws.{next_is}
-use Rattle.fp_part.proofs.walk.Walk.advance.Goals as goal
+use Rattle.fp_part.proofs.partition.Partition.advance.Goals as goal
 
 pub move_cell-requires-clause-cell : goal.move_cell-requires-clause-cell
 move_cell-requires-clause-cell c =
