@@ -7,7 +7,7 @@ use Rattle.fp_match.specs.declared.matching.Matching.{Matching}
 use Rattle.fp_match.specs.Prices.{IsWithinLimits, IsBest}
 use Rattle.fp_match.specs.Owners.{Agree, unused}
 use Rattle.fp_match.specs.OwnerLaws.{free_or_owned, pigeonhole}
-use Rattle.fp_match.specs.Search.{far, label_of, row_at, parent_of, owner_of, column_of, price_of, Fits, IsMatching, least_of, Covered, IsLink, IsSink, IsTree, IsGrown, IsPath, IsHandedBack, CanRaise, IsRaised}
+use Rattle.fp_match.specs.Search.{far, label_of, row_at, parent_of, owner_of, column_of, price_of, Fits, IsMatching, least_of, Covered, IsLink, IsSink, IsTree, IsGrown, IsPath, IsAugmented, CanRaise, IsRaised}
 use Rattle.fp_match.proofs.Tree.{least_held, least_start}
 
 -- some column is not used
@@ -237,7 +237,7 @@ path_of cost columns row m m' l new matched fits grown low few chosen_is owner_i
 -- the matching with one row more
 pub matched_more : (cost : ℕ → ℕ → ℕ) (rows columns row : ℕ) (m m' m'' : Matching) (l : Labels) (new : List ℕ) → IsWithinLimits rows columns cost
     → IsMatching cost columns row m → Fits columns row m → IsGrown cost columns row m l → l.level ≤ 2 ^ 36 → row < rows
-    → m'.prices.items ≡ new → IsRaised m.column_of.items m.prices.items new l → IsHandedBack cost columns row m' m''
+    → m'.prices.items ≡ new → IsRaised m.column_of.items m.prices.items new l → IsAugmented cost columns row m' m''
     → IsMatching cost columns (row + 1) m''
 matched_more cost rows columns row m m' m'' l new limits matched fits grown low row_in prices_is raised_new back =
     let raised : IsRaised m.column_of.items m.prices.items m'.prices.items l = rw prices_is raised_new in

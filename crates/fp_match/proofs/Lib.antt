@@ -2,6 +2,6 @@ pub mod LeastShown
 pub mod Tree
 pub mod Grow
 pub mod Steps
-pub mod HandBack
+pub mod Augment
 pub mod Insert
 pub mod Assigned

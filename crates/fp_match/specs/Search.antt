@@ -1,4 +1,4 @@
--- A search for a column for one more row: what is known in its course, and what its steps do.
+-- A search for a shortest augmenting path for one more row: what is known in its course, and what its steps do.
 use Rattle.std.specs.Prelude.{◌≡◌, ◌≢◌, ℕ, ◌+◌, ◌*◌, ◌^◌, ◌<◌, ◌≤◌, ◌⊎◌, nat_lt, if◌then◌else◌, min, List, length, slice_index, slice_set}
 use Rattle.fp_match.specs.declared.labels.Labels.{Labels}
 use Rattle.fp_match.specs.declared.matching.Matching.{Matching}
@@ -253,15 +253,15 @@ pub record IsHole (cost : ℕ → ℕ → ℕ) (columns row : ℕ) (m : Matching
   pub free : (s : ℕ) → s < columns → s ≢ hole → row ≤ owner_of m s → (owner_of m s ≡ unused) × (price_of m s ≡ 0)
   pub best : (n : ℕ) → n < row → IsBest cost columns m.prices.items n (column_of m n)
 
--- the row has a column too
-pub record IsHandedBack (cost : ℕ → ℕ → ℕ) (columns row : ℕ) (old new : Matching) : Type 0 where
+-- the matching is augmented: the row has a column too
+pub record IsAugmented (cost : ℕ → ℕ → ℕ) (columns row : ℕ) (old new : Matching) : Type 0 where
   pub agree : Agree columns (row + 1) new.column_of.items new.owner.items
   pub free : (s : ℕ) → s < columns → row + 1 ≤ owner_of new s → price_of new s ≡ 0
   pub best : (n : ℕ) → n < row + 1 → IsBest cost columns new.prices.items n (column_of new n)
   pub prices : new.prices.items ≡ old.prices.items
   pub sizes : (length new.column_of.items ≡ length old.column_of.items) × (length new.owner.items ≡ length old.owner.items)
 
--- the way from the row that the search began at to the sink
+-- the augmenting path from the row that the search began at to the sink
 pub record IsPath (cost : ℕ → ℕ → ℕ) (columns row : ℕ) (m : Matching) (l : Labels) : Type 0 where
   pub matched : IsHole cost columns row m l.sink
   pub room : row < length l.parent.items

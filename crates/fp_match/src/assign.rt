@@ -1,4 +1,10 @@
-//! A matching of all rows, built up row by row.
+//! A matching of all rows at least total cost, by one shortest augmenting path for each row.
+//!
+//! After R. Jonker and A. Volgenant, "A shortest augmenting path algorithm for dense and sparse linear assignment problems", Computing 38,
+//! 1987, without their initial steps: a search from a row without a column settles rows nearest first, as Dijkstra's does, where a step
+//! to a column is as long as its reduced cost: its cost and price less those of the column that the settled row has. The search ends at
+//! the nearest unused column. Then the prices of the columns of settled rows rise, so that no reduced cost falls below 0, and along the
+//! augmenting path each row takes the next column.
 
 ghost use Rattle.std.specs.Prelude.{◌≡◌, ◌<◌, ◌≤◌, ◌+◌, ℕ, length};
 ghost use Rattle.fp_match.specs.Search.{AreFar, IsTree, IsMatching, Fits, IsGrown, IsRoomy, SameSizes, SameRooms, IsCleared};
@@ -6,7 +12,7 @@ ghost use Rattle.fp_match.specs.Search.{AreFar, IsTree, IsMatching, Fits, IsGrow
 use crate::choice::UNUSED;
 use crate::costs::Costs;
 use crate::labels::Labels;
-use crate::matching::{Matching, hand_back, raise};
+use crate::matching::{Matching, augment, raise};
 use crate::scan::scan_row;
 
 /// Takes all columns from their rows, and makes every price 0.
@@ -18,7 +24,8 @@ fn clear(matching: &mut Matching)
     matching.prices.fill(0);
 }
 
-/// Settles rows, nearest first, until no row that waits lies nearer than the nearest unused column.
+/// Settles rows, nearest first, until no row that waits lies nearer than the nearest unused column: then the augmenting path to it is a
+/// shortest one.
 fn grow<C: Costs>(costs: &C, matching: &Matching, labels: &mut Labels, row: u32)
     requires tree { IsTree (C.cost_of costs.now) (C.column_count costs.now) row matching.now labels.old }
     requires matched { IsMatching (C.cost_of costs.now) (C.column_count costs.now) row matching.now }
@@ -37,7 +44,7 @@ fn grow<C: Costs>(costs: &C, matching: &Matching, labels: &mut Labels, row: u32)
     }
 }
 
-/// Gives one row more a column, so that the rows so far keep least total cost.
+/// Gives one row more a column, by a shortest augmenting path, so that the rows so far keep least total cost.
 fn insert<C: Costs>(costs: &C, matching: &mut Matching, labels: &mut Labels, row: u32)
     requires row_in { row < C.row_count costs.now }
     requires few { C.row_count costs.now ≤ C.column_count costs.now }
@@ -53,7 +60,7 @@ fn insert<C: Costs>(costs: &C, matching: &mut Matching, labels: &mut Labels, row
     labels.start(row);
     grow(costs, matching, labels, row);
     raise(&matching.column_of, &mut matching.prices, labels);
-    hand_back(costs, matching, labels, row);
+    augment(costs, matching, labels, row);
     labels.reset();
 }
 

@@ -1,4 +1,4 @@
-//! A search for a column: which rows it has reached, and how far they lie.
+//! The labels of a search for a shortest augmenting path: which rows it has reached, and how far they lie.
 
 ghost use Rattle.std.specs.Prelude.{◌≡◌, ◌↔◌, ◌<◌, ◌≤◌, ◌+◌, ℕ, IsTrue, length, slice_index};
 ghost use Rattle.std.specs.Bool.{OnTrue, OnFalse};
@@ -19,13 +19,13 @@ pub(crate) struct Labels {
     pub(crate) reached: Vec<u32>,
     /// How many rows are reached.
     pub(crate) count: usize,
-    /// The place of the row that was settled last. Those behind it wait.
+    /// The place in `reached` of the row that was settled last. Those behind it wait.
     pub(crate) at: usize,
     /// How far the nearest unused column lies, as far as is known, or `FAR`.
     pub(crate) level: u64,
-    /// That column.
+    /// The nearest unused column, as far as is known: there the augmenting path would end.
     pub(crate) sink: u32,
-    /// The place of the row that it is reached from.
+    /// The place in `reached` of the row that `sink` is reached from.
     pub(crate) last: usize,
 }
 

@@ -1,4 +1,4 @@
-//! Assignment of rows to columns at least total cost, with prices of columns that show it.
+//! Linear assignment: for each row a column of its own, at least total cost, with prices of columns, the dual variables, that show it.
 #![tactic(auto)]
 
 mod assign;

@@ -13,8 +13,7 @@ use std::alloc::Global;
 use std::marker::Model;
 
 /// Finds a column for each row at least total cost, with prices that show it, in room that is taken
-/// once. It stores no table of costs: rows get their columns one after the other, each by a search
-/// over the rows that stand in the way.
+/// once. It stores no table of costs: rows get their columns one after the other, each by a shortest augmenting path.
 #[derive(Drop)]
 pub struct Matcher {
     matching: Matching,

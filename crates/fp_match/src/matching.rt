@@ -2,7 +2,7 @@
 
 ghost use Rattle.std.specs.Prelude.{◌≡◌, ◌<◌, ◌≤◌, ◌+◌, ℕ, length};
 ghost use Rattle.fp_match.specs.Owners.{Agree};
-ghost use Rattle.fp_match.specs.Search.{CanRaise, IsRaised, IsPath, IsHandedBack};
+ghost use Rattle.fp_match.specs.Search.{CanRaise, IsRaised, IsPath, IsAugmented};
 
 use crate::costs::Costs;
 use crate::labels::Labels;
@@ -18,7 +18,8 @@ pub(crate) struct Matching {
     pub(crate) prices: Vec<u64>,
 }
 
-/// Raises the prices of the columns of the tree's rows to where each lies as far as the level.
+/// Raises the price of each settled row's column by as much as the row lies nearer than the level, so that the reduced costs on the
+/// augmenting path are 0 and none falls below 0.
 pub(crate) fn raise(column_of: &[u32], prices: &mut [u64], labels: &Labels)
     requires { CanRaise column_of.now prices.old labels.now }
     ensures { IsRaised column_of.now prices.old prices.new labels.now }
@@ -30,11 +31,11 @@ pub(crate) fn raise(column_of: &[u32], prices: &mut [u64], labels: &Labels)
     }
 }
 
-/// Gives the sink to the row that reaches it, that row's column to the row before it, and so on back
-/// to the row that had none.
-pub(crate) fn hand_back<C: Costs>(costs: &C, matching: &mut Matching, labels: &Labels, row: u32)
+/// Augments the matching along the path that ends at the sink: from its end back to the row that had no column, each row gives its
+/// column to the row before it on the path and takes the next one.
+pub(crate) fn augment<C: Costs>(costs: &C, matching: &mut Matching, labels: &Labels, row: u32)
     requires { IsPath (C.cost_of costs.now) (C.column_count costs.now) row matching.old labels.now }
-    ensures { IsHandedBack (C.cost_of costs.now) (C.column_count costs.now) row matching.old matching.new }
+    ensures { IsAugmented (C.cost_of costs.now) (C.column_count costs.now) row matching.old matching.new }
 {
     let _costs = costs;
     let mut column = labels.sink;

@@ -1,4 +1,4 @@
-//! Looking at the columns that a settled row could have.
+//! One step of a search for a shortest augmenting path: the columns that a settled row could have, by their reduced costs.
 
 ghost use Rattle.std.specs.Prelude.{◌≡◌, ◌<◌, ◌≤◌, ◌+◌, ◌*◌, ℕ, length};
 ghost use Rattle.fp_match.specs.Search.{IsTree, IsMatching, Fits, Offered, IsOffer, Scanned, IsTurn, StripeCovered, StripeScanned};
@@ -9,8 +9,8 @@ use crate::labels::{FAR, Labels};
 use crate::matching::Matching;
 use crate::stripes::{near_columns, stripe_count};
 
-/// The row that was settled last, how far it lies, and the cost and price of its column, 0 where it
-/// has none.
+/// The row that was settled last, how far it lies, and the cost and price of its column, 0 where it has none. What another column costs
+/// the row, with its price, less that is the column's reduced cost.
 #[derive(Clone, Copy)]
 struct Turn {
     row: u32,
@@ -49,7 +49,7 @@ fn offer<C: Costs>(
     }
 }
 
-/// Looks at a column.
+/// Looks at a column: it lies as much farther than the row that was settled last as its reduced cost is.
 fn look_at<C: Costs>(
     costs: &C,
     matching: &Matching,

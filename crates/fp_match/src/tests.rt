@@ -6,6 +6,7 @@ use crate::{Choice, ChoiceFault, Costs, Matcher, prices_shown};
 use fp_base::NoMemory;
 use std::alloc::Global;
 use std::ops::Range;
+use std::process::Abort;
 use std::test::Fail;
 
 const MOST: u64 = 1 << 36;
@@ -121,52 +122,67 @@ fn solution<C: Costs>(alloc: Global, costs: &C) -> Result<(u64, Vec<u32>, Vec<u6
     Ok((total, chosen, prices))
 }
 
+// Two rows want the first column; the second row pays more for another one, so the first gives way.
+fn one_row_gives_way(rt: &impl Abort, alloc: Global, stripe: u8) -> Result<(), Fail> {
+    let table = Table {
+        cells: &[0, 3, 0, 5],
+        rows: 2,
+        columns: 2,
+        stripe,
+    };
+    let (total, chosen, prices) = solution(alloc, &table)?;
+    assert_eq!(rt; total, 3);
+    assert_eq!(rt; chosen.as_slice(), [1, 0].as_slice());
+    assert_eq!(rt; prices.len(), 2);
+    let apart = prices[0].wrapping_sub(prices[1]);
+    assert!(rt; 3 <= apart && apart <= 5, "{apart}");
+    Ok(())
+}
+
+// Two rows alike: the better column's price is what it is better by.
+fn equal_rows(rt: &impl Abort, alloc: Global, stripe: u8) -> Result<(), Fail> {
+    let table = Table {
+        cells: &[1, 2, 1, 2],
+        rows: 2,
+        columns: 2,
+        stripe,
+    };
+    let (total, _, prices) = solution(alloc, &table)?;
+    assert_eq!(rt; total, 3);
+    assert_eq!(rt; prices.len(), 2);
+    assert_eq!(rt; prices[0].wrapping_sub(prices[1]), 1);
+    Ok(())
+}
+
+// Where a column stays unused that is as good as any, or there is no row, no column has a price.
+fn no_prices(rt: &impl Abort, alloc: Global, stripe: u8) -> Result<(), Fail> {
+    let one = Table {
+        cells: &[4, 4],
+        rows: 1,
+        columns: 2,
+        stripe,
+    };
+    let (total, _, prices) = solution(alloc, &one)?;
+    assert_eq!(rt; total, 4);
+    assert_eq!(rt; prices.as_slice(), [0, 0].as_slice());
+    let none = Table {
+        cells: &[],
+        rows: 0,
+        columns: 3,
+        stripe,
+    };
+    let (total, chosen, prices) = solution(alloc, &none)?;
+    assert_eq!(rt; (total, chosen.len()), (0, 0));
+    assert_eq!(rt; prices.as_slice(), [0, 0, 0].as_slice());
+    Ok(())
+}
+
 #[test]
 fn small_tables(rt: HostRuntime) -> Result<(), Fail> {
     for stripe in [1, 2] {
-        let two = Table {
-            cells: &[0, 3, 0, 5],
-            rows: 2,
-            columns: 2,
-            stripe,
-        };
-        let (total, chosen, prices) = solution(rt.alloc(), &two)?;
-        assert_eq!(rt; total, 3);
-        assert_eq!(rt; chosen.as_slice(), [1, 0].as_slice());
-        assert_eq!(rt; prices.len(), 2);
-        let apart = prices[0].wrapping_sub(prices[1]);
-        assert!(rt; 3 <= apart && apart <= 5, "{apart}");
-
-        let none = Table {
-            cells: &[],
-            rows: 0,
-            columns: 3,
-            stripe,
-        };
-        let (total, chosen, prices) = solution(rt.alloc(), &none)?;
-        assert_eq!(rt; (total, chosen.len()), (0, 0));
-        assert_eq!(rt; prices.as_slice(), [0, 0, 0].as_slice());
-
-        let one = Table {
-            cells: &[4, 4],
-            rows: 1,
-            columns: 2,
-            stripe,
-        };
-        let (total, _, prices) = solution(rt.alloc(), &one)?;
-        assert_eq!(rt; total, 4);
-        assert_eq!(rt; prices.as_slice(), [0, 0].as_slice());
-
-        let same = Table {
-            cells: &[1, 2, 1, 2],
-            rows: 2,
-            columns: 2,
-            stripe,
-        };
-        let (total, _, prices) = solution(rt.alloc(), &same)?;
-        assert_eq!(rt; total, 3);
-        assert_eq!(rt; prices.len(), 2);
-        assert_eq!(rt; prices[0].wrapping_sub(prices[1]), 1);
+        one_row_gives_way(&rt, rt.alloc(), stripe)?;
+        equal_rows(&rt, rt.alloc(), stripe)?;
+        no_prices(&rt, rt.alloc(), stripe)?;
     }
     Ok(())
 }

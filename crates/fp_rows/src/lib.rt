@@ -59,7 +59,11 @@ pub fn row_cost(cells: &[RowCell], xs: &[i64]) -> i128
 }
 
 /// Whether the positions lie between the ends, in order and without overlap.
-fn is_feasible(cells: &[RowCell], lo: i64, hi: i64, xs: &[i64]) -> bool
+///
+/// `lo` and `hi` are the row's ends, from 0 to 2^31, with room for the cells between them. There is a position for each cell, from
+/// 0 to 2^31. It is true exactly where each cell begins at or behind the end of the one before, the first at or behind `lo`, and
+/// the last ends at or before `hi`.
+pub fn is_feasible(cells: &[RowCell], lo: i64, hi: i64, xs: &[i64]) -> bool
     requires row { IsRow cells.now lo hi }
     requires places { ArePlaces cells.now xs.now }
     ensures { IsTrue result ↔ Feasible cells.now lo hi xs.now }

@@ -1,6 +1,6 @@
 //! The cost and the test of duals at rows worked by hand.
 
-use super::{RowCell, row_cost, row_shown};
+use super::{RowCell, is_feasible, row_cost, row_shown};
 
 /// Two cells of width 2 that would both stand where the other is: two rows of positions are the best.
 const TIED: [RowCell; 2] = [
@@ -40,6 +40,8 @@ fn both_ends_of_a_tie_are_shown(rt: HostRuntime) {
     assert!(rt; is_tie_shown(4, 6, &[0, 1, 0]));
     assert!(rt; is_tie_shown(5, 7, &[0, 1, 0]));
     assert!(rt; !is_tie_shown(4, 6, &[0, 2, 0]));
+    assert!(rt; !is_feasible(&TIED, 0, 20, &[18, 18]));
+    assert!(rt; is_feasible(&TIED, 0, 20, &[16, 18]));
 }
 
 #[test]

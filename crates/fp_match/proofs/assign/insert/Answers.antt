@@ -11,8 +11,8 @@ raise-requires g c =
     (can_raise _ _ _ _ _ c.requires.matched fits c.grow.ensures.grown
     (level_low _ _ _ _ _ _ c.rows-limits.ensures.limits c.requires.matched fits c.grow.ensures.grown c.requires.row_in c.requires.few))
 
-pub hand_back-requires : goal.hand_back-requires
-hand_back-requires g c =
+pub augment-requires : goal.augment-requires
+augment-requires g c =
     let fits = fits_of _ _ _ _ _ c.requires.room c.requires.row_in in
     path_of _ _ _ _ _ _ _ c.requires.matched fits c.grow.ensures.grown
     (level_low _ _ _ _ _ _ c.rows-limits.ensures.limits c.requires.matched fits c.grow.ensures.grown c.requires.row_in c.requires.few)
@@ -27,4 +27,4 @@ returns-clause-matched g c =
     (level_low _ _ _ _ _ _ c.rows-limits.ensures.limits c.requires.matched fits c.grow.ensures.grown c.requires.row_in c.requires.few)
     c.requires.row_in
     (with_items_is c.args.matching.now.prices c.raise.new.prices (omega (arith, c.raise.ensures.size, c.deref_mut.ensures.len)))
-    (rw (c.deref.ensures.value, c.deref_mut.ensures.value) at c.raise.ensures) c.hand_back.ensures
+    (rw (c.deref.ensures.value, c.deref_mut.ensures.value) at c.raise.ensures) c.augment.ensures

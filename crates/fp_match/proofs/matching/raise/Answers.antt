@@ -1,5 +1,5 @@
 use Rattle.std.proofs.Common.{arith}
-use Rattle.fp_match.proofs.HandBack.{raise_step}
+use Rattle.fp_match.proofs.Augment.{raise_step}
 use Rattle.fp_match.proofs.matching.raise.Goals as goal
 
 pub loop-place-preserved : goal.loop-place-preserved

@@ -1,4 +1,4 @@
--- How the sink and the columns on the way to it are handed back.
+-- How a matching is augmented along a path: the sink and the columns on the way to it are handed back, row by row.
 use Rattle.std.proofs.Common.{◌≡◌, ◌≢◌, ℕ, ◌+◌, ◌-◌, ◌<◌, ◌≤◌, inl, inr, List, length, get_or, set, refl, sym, ap, ◌∙◌, arith}
 use Rattle.std.specs.Prelude.{slice_index, slice_set}
 use Rattle.std.proofs.lemmas.Bool.{cases_eq, cases_lt}
@@ -9,10 +9,10 @@ use Rattle.fp_match.specs.declared.matching.Matching.{Matching}
 use Rattle.fp_match.specs.Prices.{IsBest}
 use Rattle.fp_match.specs.Owners.{unused}
 use Rattle.fp_match.proofs.Steps.{read_is}
-use Rattle.fp_match.specs.Search.{CanRaise, AreRaised, label_of, row_at, parent_of, owner_of, column_of, price_of, IsHole, IsPath, IsHandedBack}
+use Rattle.fp_match.specs.Search.{CanRaise, AreRaised, label_of, row_at, parent_of, owner_of, column_of, price_of, IsHole, IsPath, IsAugmented}
 
 -- Rows behind the place have their new columns, and the row at the place is to have the hole.
-pub record IsHandingBack (cost : ℕ → ℕ → ℕ) (columns row : ℕ) (old m : Matching) (l : Labels) (hole place : ℕ) : Type 0 where
+pub record IsAugmenting (cost : ℕ → ℕ → ℕ) (columns row : ℕ) (old m : Matching) (l : Labels) (hole place : ℕ) : Type 0 where
   pub is_hole : IsHole cost columns row m hole
   pub within : place ≤ l.last
   pub best : IsBest cost columns m.prices.items (row_at l place) hole
@@ -21,7 +21,7 @@ pub record IsHandingBack (cost : ℕ → ℕ → ℕ) (columns row : ℕ) (old m
   pub sizes : (length m.column_of.items ≡ length old.column_of.items) × (length m.owner.items ≡ length old.owner.items)
 
 pub handing_start : (cost : ℕ → ℕ → ℕ) (columns row : ℕ) (m : Matching) (l : Labels) → IsPath cost columns row m l
-    → IsHandingBack cost columns row m m l l.sink l.last
+    → IsAugmenting cost columns row m m l l.sink l.last
 handing_start cost columns row m l path = record {
   is_hole = path.matched;
   within = omega arith;
@@ -84,10 +84,10 @@ hole_moved cost columns row m m' hole n old n_in better chosen_is owner_is price
     }
 
 pub handing_step : (cost : ℕ → ℕ → ℕ) (columns row : ℕ) (old m m' : Matching) (l : Labels) (hole place : ℕ) → IsPath cost columns row old l
-    → IsHandingBack cost columns row old m l hole place → 0 < place
+    → IsAugmenting cost columns row old m l hole place → 0 < place
     → m'.column_of.items ≡ slice_set m.column_of.items (row_at l place) hole → m'.owner.items ≡ slice_set m.owner.items hole (row_at l place)
     → m'.prices.items ≡ m.prices.items
-    → IsHandingBack cost columns row old m' l (column_of m (row_at l place)) (parent_of l (row_at l place))
+    → IsAugmenting cost columns row old m' l (column_of m (row_at l place)) (parent_of l (row_at l place))
 handing_step cost columns row old m m' l hole place path back pos chosen_is owner_is prices_is =
     let n_in : row_at l place < row = path.rows place pos back.within in
     let before : parent_of l (row_at l place) < place = path.parents place pos back.within in
@@ -110,9 +110,9 @@ handing_step cost columns row old m m' l hole place path back pos chosen_is owne
 
 -- the row that had no column gets the hole
 pub handing_end : (cost : ℕ → ℕ → ℕ) (columns row : ℕ) (old m m' : Matching) (l : Labels) (hole place : ℕ) → IsPath cost columns row old l
-    → IsHandingBack cost columns row old m l hole place → place ≡ 0
+    → IsAugmenting cost columns row old m l hole place → place ≡ 0
     → m'.column_of.items ≡ slice_set m.column_of.items row hole → m'.owner.items ≡ slice_set m.owner.items hole row
-    → m'.prices.items ≡ m.prices.items → IsHandedBack cost columns row old m'
+    → m'.prices.items ≡ m.prices.items → IsAugmented cost columns row old m'
 handing_end cost columns row old m m' l hole place path back start chosen_is owner_is prices_is =
     let was : IsHole cost columns row m hole = back.is_hole in
     let here : column_of m' row ≡ hole = rw chosen_is (get_or-set_same m.column_of.items row hole 0 was.space.chosen) in
@@ -180,19 +180,19 @@ back_less cost columns row m l place current next path within pos read read_next
     (is, omega (arith, path.parents place pos within))
 
 pub back_step : (cost : ℕ → ℕ → ℕ) (columns row : ℕ) (old m m' : Matching) (l : Labels) (hole place current left next : ℕ) → IsPath cost columns row old l
-    → IsHandingBack cost columns row old m l hole place → 0 < place
+    → IsAugmenting cost columns row old m l hole place → 0 < place
     → current ≡ get_or l.reached.items place current → left ≡ get_or m.column_of.items current left → next ≡ get_or l.parent.items current next
     → m'.column_of.items ≡ slice_set m.column_of.items current hole → m'.owner.items ≡ slice_set m.owner.items hole current
     → m'.prices.items ≡ m.prices.items
-    → IsHandingBack cost columns row old m' l left next
+    → IsAugmenting cost columns row old m' l left next
 back_step cost columns row old m m' l hole place current left next path back pos read read_left read_next chosen_is owner_is prices_is =
     let at : (row_at l place ≡ current) × (current < row) = back_row cost columns row old l place current path back.within pos read in
     let column : column_of m current ≡ left = read_is m.column_of.items current left (omega (arith, at.1, back.is_hole.space.chosen)) read_left in
     let left_is : column_of m (row_at l place) ≡ left = ap (column_of m) at.0 ∙ column in
     let next_is : parent_of l (row_at l place) ≡ next = (back_less cost columns row old l place current next path back.within pos read read_next).0 in
-    let step : IsHandingBack cost columns row old m' l (column_of m (row_at l place)) (parent_of l (row_at l place)) =
+    let step : IsAugmenting cost columns row old m' l (column_of m (row_at l place)) (parent_of l (row_at l place)) =
     handing_step cost columns row old m m' l hole place path back pos (rw at.0 chosen_is) (rw at.0 owner_is) prices_is in
-    let at_left : IsHandingBack cost columns row old m' l left (parent_of l (row_at l place)) = rw (← left_is) step in
+    let at_left : IsAugmenting cost columns row old m' l left (parent_of l (row_at l place)) = rw (← left_is) step in
     rw (← next_is) at_left
 
 -- one place more is raised

@@ -1,6 +1,6 @@
 use Rattle.std.proofs.Common.{refl, arith}
-use Rattle.fp_match.proofs.HandBack.{back_row, back_less, back_step}
-use Rattle.fp_match.proofs.matching.hand_back.Goals as goal
+use Rattle.fp_match.proofs.Augment.{back_row, back_less, back_step}
+use Rattle.fp_match.proofs.matching.augment.Goals as goal
 
 pub index-place-requires : goal.index-place-requires
 index-place-requires g c =

@@ -1,9 +1,0 @@
-use Rattle.fp_match.proofs.HandBack.{IsHandingBack}
-use Rattle.fp_match.proofs.matching.hand_back.Given as goal
-
-abbrev pub invariant-loop-place : goal.invariant-loop-place
-invariant-loop-place g l =
-    IsHandingBack (g.C.Costs.cost_of l.costs) (g.C.Costs.column_count l.costs) l.row l.fn.matching l.matching l.labels l.column l.place
-
-abbrev pub decreases-loop-place : goal.decreases-loop-place
-decreases-loop-place g l = l.place
