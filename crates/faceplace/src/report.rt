@@ -1,7 +1,7 @@
 //! The lines that the program prints.
 
 ghost use Rattle.std.specs.Prelude.{◌≡◌, ◌++◌, IfOk, string_bytes, codes, decimal};
-ghost use Rattle.fp_score.specs.FirstFitLaws.{IsStopOf};
+ghost use Rattle.fp_score.specs.FirstFit.{IsStopOf};
 ghost use Rattle.faceplace.specs.Report.{die_text, kind_text, input_report, seed_report, stop_text, unfit_report, score_report, subject_text, broken_report};
 ghost use Rattle.faceplace.specs.Subjects.{IsSubjectOf};
 ghost use Rattle.faceplace.specs.Causes.{cause_of};

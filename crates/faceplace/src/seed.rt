@@ -4,7 +4,7 @@ ghost use Rattle.std.specs.Prelude.{◌≡◌, IfOk, Ok, Some, string_bytes};
 ghost use Rattle.fp_place.specs.Cut.{cut};
 ghost use Rattle.fp_place.specs.Places.{dies_of};
 ghost use Rattle.fp_place.specs.Placed.{places_of, IsPlacementOf};
-ghost use Rattle.fp_score.specs.FirstFitLaws.{IsStopOf};
+ghost use Rattle.fp_score.specs.FirstFit.{IsStopOf};
 ghost use Rattle.fp_score.specs.Terminals.{AreOnCuts};
 ghost use Rattle.fp_seed.specs.Seeded.{SeedGives};
 ghost use Rattle.faceplace.specs.Request.{Seed};

@@ -69,6 +69,9 @@ const THREE_NETS: Changes = [
     NONE,
 ];
 
+/// The last section of the small input, behind which a cost and blockages may stand.
+const SPACING: &str = "TerminalSpacing 1";
+
 /// The output of the small input.
 const PLACED: &str =
     "TopDiePlacement 1\nInst C1 0 0\nBottomDiePlacement 1\nInst C2 0 0\nNumTerminals 1\nTerminal N1 2 2\n";
@@ -189,6 +192,50 @@ fn seeds_of_other_inputs_are_written_with_their_scores(rt: HostRuntime) -> Resul
 }
 
 #[test]
+fn seeds_with_a_cost_or_a_blockage_are_written_with_their_scores(
+    rt: HostRuntime,
+) -> Result<(), Fail> {
+    let beside =
+        "TopDiePlacement 1\nInst C1 0 0\nBottomDiePlacement 1\nInst C2 6 0\nNumTerminals 1\nTerminal N1 2 2\n";
+    for (section, text, report, output) in [
+        (
+            SPACING,
+            "TerminalSpacing 1\nTerminalCost 7",
+            "seed 9 first top cut 1 slots 36\n",
+            PLACED,
+        ),
+        (
+            "DieSize 0 0 20 20",
+            "TerminalCost 7\nDieSize 0 0 20 20",
+            "seed 9 first top cut 1 slots 36\n",
+            PLACED,
+        ),
+        (
+            SPACING,
+            "TerminalSpacing 1\nNumBlockages 0",
+            "seed 2 first top cut 1 slots 36\n",
+            PLACED,
+        ),
+        (
+            SPACING,
+            "TerminalSpacing 1\nNumBlockages 1\nBlockage Bottom 3 0 6 10",
+            "seed 8 first top cut 1 slots 36\n",
+            beside,
+        ),
+        (
+            SPACING,
+            "TerminalSpacing 1\nTerminalCost 7\nNumBlockages 1\nBlockage Bottom 3 0 6 10",
+            "seed 15 first top cut 1 slots 36\n",
+            beside,
+        ),
+    ] {
+        let changes = [(section, text), NONE, NONE, NONE, NONE];
+        expect_seed(&rt, rt.alloc(), SMALL, &changes, report, output)?;
+    }
+    Ok(())
+}
+
+#[test]
 fn tells_why_no_seed_stands(rt: HostRuntime) -> Result<(), Fail> {
     let lower = [
         ("TopDieMaxUtil 20", "TopDieMaxUtil 19"),
@@ -204,8 +251,19 @@ fn tells_why_no_seed_stands(rt: HostRuntime) -> Result<(), Fail> {
         ("NumNets 1", "NumNets 2"),
         ("Net N1 2", "Net N2 2\nPin C1/P1\nPin C2/P1\nNet N1 2"),
     ];
+    let blocked = [
+        (
+            SPACING,
+            "TerminalSpacing 1\nNumBlockages 1\nBlockage Bottom 0 0 20 20",
+        ),
+        NONE,
+        NONE,
+        NONE,
+        NONE,
+    ];
     for (text, changes, report) in [
         (HIGH, lower, "unfit top cell C2 bottom cell C2\n"),
+        (SMALL, blocked, "unfit top cell C2 bottom cell C2\n"),
         (SMALL, two_nets, "unfit top slots 2 1 bottom slots 2 1\n"),
     ] {
         let input = with_changes(rt.alloc(), text, changes.as_slice())?;
@@ -258,6 +316,67 @@ fn reports_the_first_fault_of_the_dies(rt: HostRuntime) -> Result<(), Fail> {
         ),
     ] {
         expect_refusal(&rt, rt.alloc(), line, text, report)?;
+    }
+    Ok(())
+}
+
+#[test]
+fn reports_the_first_fault_of_costs_and_blockages(rt: HostRuntime) -> Result<(), Fail> {
+    for (text, report) in [
+        (
+            "TerminalSpacing 1\nTerminalCost 7\nTerminalCost 7",
+            "input a 283 twice\n",
+        ),
+        (
+            "TerminalCost 7\nTerminalSpacing 1\nTerminalCost 7",
+            "input a 283 twice\n",
+        ),
+        (
+            "TerminalSpacing 1\nTerminalCost 1073741825",
+            "input a 281 number\n",
+        ),
+        ("TerminalSpacing 1\nTerminalSpacing 1", "input a 268 word\n"),
+        (
+            "TerminalSpacing 1\nNumBlockages 1025",
+            "input a 281 limit\n",
+        ),
+        (
+            "TerminalSpacing 1\nNumBlockages 0\nTerminalCost 7",
+            "input a 283 word\n",
+        ),
+        (
+            "TerminalSpacing 1\nNumBlockages 1\nBlockage Left 0 0 1 1",
+            "input a 292 word\n",
+        ),
+        (
+            "TerminalSpacing 1\nNumBlockages 1\nBlockage Top 4 0 4 9",
+            "input a 300 range\n",
+        ),
+    ] {
+        expect_refusal(&rt, rt.alloc(), SPACING, text, report)?;
+    }
+    Ok(())
+}
+
+#[test]
+fn rows_are_told_behind_the_ninth_section(rt: HostRuntime) -> Result<(), Fail> {
+    let outside = ("TopDieRows 0 0 20 10 2", "TopDieRows 0 0 21 10 2");
+    for (line, text, report) in [
+        (
+            SPACING,
+            "TerminalSpacing 1\nTerminalCost x",
+            "input a 153 rows\n",
+        ),
+        (
+            SPACING,
+            "TerminalCost x\nTerminalSpacing 1",
+            "input a 263 number\n",
+        ),
+    ] {
+        let input = with_changes(rt.alloc(), SMALL, &[outside, (line, text)])?;
+        let end = run_words(rt.alloc(), "seed a o", Some(input.as_str()), None, &[], &[])?;
+        assert_eq!(rt; end.status, 3, "{report}");
+        assert_eq!(rt; end.out.written(), report.as_bytes(), "{report}");
     }
     Ok(())
 }
@@ -407,6 +526,36 @@ fn scores_an_output_of_the_small_input(rt: HostRuntime) -> Result<(), Fail> {
         5,
         "broken 1 C1\n",
     )
+}
+
+#[test]
+fn scores_see_costs_and_blockages(rt: HostRuntime) -> Result<(), Fail> {
+    for (text, status, report) in [
+        ("TerminalSpacing 1\nTerminalCost 7", 0, "score 9\n"),
+        (
+            "TerminalSpacing 1\nNumBlockages 1\nBlockage Top 4 0 8 10",
+            0,
+            "score 2\n",
+        ),
+        (
+            "TerminalSpacing 1\nNumBlockages 1\nBlockage Bottom 3 0 6 10",
+            5,
+            "broken 2 C2\n",
+        ),
+    ] {
+        let input = with_changes(rt.alloc(), SMALL, &[(SPACING, text)])?;
+        let end = run_words(
+            rt.alloc(),
+            "score a o",
+            Some(input.as_str()),
+            Some(PLACED),
+            &[],
+            &[],
+        )?;
+        assert_eq!(rt; end.status, status, "{report}");
+        assert_eq!(rt; end.out.written(), report.as_bytes(), "{report}");
+    }
+    Ok(())
 }
 
 #[test]

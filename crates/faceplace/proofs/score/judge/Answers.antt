@@ -10,12 +10,12 @@ use Rattle.faceplace.proofs.score.judge.Goals as goal
 
 pub score-requires-clause-terminals : goal.score-requires-clause-terminals
 score-requires-clause-terminals g c =
-    let judges : Judges c.args.problem.now c.args.drawn.now (judged.Legal c.in-Ok-Legal.placement) = rw c.in-Ok-Legal.field-0-is at c.in-Ok-Legal.ensures in
+    let judges : Judges c.args.problem.now c.args.drawn.now (judged.Legal c.in-Ok-Legal.placement) = rw c.in-Ok-Legal.field-0-is at c.in-Ok-Legal.ensures.judges in
     λ net below. legal_terminals c.args.problem.now c.args.drawn.now c.in-Ok-Legal.placement judges net below
 
 pub returns-in-Ok : goal.returns-in-Ok
 returns-in-Ok g c =
-    let judges : Judges c.args.problem.now c.args.drawn.now (judged.Legal c.in-Ok-Legal.placement) = rw c.in-Ok-Legal.field-0-is at c.in-Ok-Legal.ensures in
+    let judges : Judges c.args.problem.now c.args.drawn.now (judged.Legal c.in-Ok-Legal.placement) = rw c.in-Ok-Legal.field-0-is at c.in-Ok-Legal.ensures.judges in
     inl (record {
       legal = judges.0;
       total = c.score.result;
