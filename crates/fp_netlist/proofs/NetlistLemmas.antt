@@ -1,5 +1,5 @@
 -- A kept problem and its value, and what adding makes of both.
-use Rattle.std.proofs.Common.{◌≡◌, ◌==◌, ℕ, zero, suc, ◌+◌, ◌<◌, ◌≤◌, ◌^◌, Bool, true, false, ◌||◌, List, [], ◌∷◌, ◌++◌, length, map, Option, Some, None, is_some, is_none, if◌then◌else◌, get_or, refl, sym, ap, subst, ◌∙◌, arith}
+use Rattle.std.proofs.Common.{◌≡◌, ◌==◌, ℕ, zero, suc, ◌+◌, ◌<◌, ◌≤◌, ◌^◌, Bool, true, false, ◌||◌, List, [], ◌∷◌, ◌++◌, length, map, Option, Some, None, is_some, is_none, not, Err, if◌then◌else◌, get_or, refl, sym, ap, subst, ◌∙◌, arith}
 use Rattle.std.specs.Prelude.{nat_le, slice_get, unwrap_or, All}
 use Rattle.std.specs.List.{IsDistinct}
 use Rattle.std.specs.Option.{option_map, option_and_then}
@@ -13,8 +13,9 @@ use Rattle.fp_base.specs.declared.ids.Die.TheVariants.{Top, Bottom}
 use Rattle.fp_base.specs.declared.ids.CellId.{CellId}
 use Rattle.fp_base.specs.declared.ids.NetId.{NetId}
 use Rattle.fp_base.specs.declared.ids.Point.{Point}
+use Rattle.fp_tech.specs.declared.fault.BuildFault.{BuildFault}
 use Rattle.fp_tech.specs.declared.fault.BuildFault.TheVariants.{Twice, Unknown, Limit}
-use Rattle.fp_tech.specs.Book.{Lib, Pin, place_of, size_of, offset_of, refusal, IsBook}
+use Rattle.fp_tech.specs.Book.{Lib, Pin, place_of, is_among, with_name, size_of, offset_of, refusal, Adds, IsBook}
 use Rattle.fp_tech.specs.BookLaws.{distinct_names, slice_get-front}
 use Rattle.fp_tech.specs.Plan.{Plan, IsPlan}
 use Rattle.fp_netlist.specs.declared.problem.Conn.{Conn}
@@ -375,9 +376,40 @@ refused_twice n most twice unknown room there = grind (arith, nat_tests)
 pub refused_unknown : (n most : ℕ) (twice unknown : Bool) → n < most → twice ≡ false → unknown ≡ true → refusal (nat_le most n) twice unknown ≡ Some Unknown
 refused_unknown n most twice unknown room once lacks = grind (arith, nat_tests)
 
+-- a library cell that a die lacks is refused, after a name that is there
+pub refused_lacking : {A : Type 0} (n most : ℕ) (twice unknown : Bool) (answer : A) (old grown : Netlist) (fault : BuildFault) → n < most → unknown ≡ true
+    → fault ≡ (if twice then Twice else Unknown) → Adds (refusal (nat_le most n) twice unknown) answer old grown (Err fault) old
+refused_lacking n most true unknown answer old grown fault room lacks is =
+    subst (λ f. Adds (refusal (nat_le most n) true unknown) answer old grown (Err f) old) (sym is) (refused_twice n most true unknown room refl, refl)
+refused_lacking n most false unknown answer old grown fault room lacks is =
+    subst (λ f. Adds (refusal (nat_le most n) false unknown) answer old grown (Err f) old) (sym is) (refused_unknown n most false unknown room refl lacks, refl)
+
 pub none_if : {A : Type 0} (o : Option A) → is_some o ≡ false → o ≡ None
 none_if None e = refl
 none_if (Some x) e = cc
+
+-- what adding a name made of the names, by its answer
+pub name_old : (kept new names : List (List ℕ)) (name : List ℕ) (is_new : Bool) → kept ≡ names → is_new ≡ not (is_among name kept) → new ≡ with_name kept name → is_new ≡ false
+    → (is_among name names ≡ true) × (new ≡ kept)
+name_old kept new names name is_new same told grown old =
+    let found = there (is_among name kept) is_new told old in
+    (ap (is_among name) (sym same) ∙ found, grown ∙ ap (λ b. if b then kept else kept ++ name ∷ []) found)
+  where
+    there : (b n : Bool) → n ≡ not b → n ≡ false → b ≡ true
+    there true n e o = refl
+    there false true e o = cc
+    there false false e o = cc
+
+pub name_new : (kept new names : List (List ℕ)) (name : List ℕ) (is_new : Bool) → kept ≡ names → is_new ≡ not (is_among name kept) → new ≡ with_name kept name → is_new ≡ true
+    → (place_of name names ≡ None) × (new ≡ kept ++ name ∷ [])
+name_new kept new names name is_new same told grown added =
+    let free = absent (is_among name kept) is_new told added in
+    (ap (place_of name) (sym same) ∙ none_if (place_of name kept) free, grown ∙ ap (λ b. if b then kept else kept ++ name ∷ []) free)
+  where
+    absent : (b n : Bool) → n ≡ not b → n ≡ true → b ≡ false
+    absent false n e o = refl
+    absent true true e o = cc
+    absent true false e o = cc
 
 both_there : {A B : Type 0} (a : Option A) (b : Option B) → is_some a ≡ true → is_some b ≡ true → (is_none a || is_none b) ≡ false
 both_there None b some other = absurd (let no : false ≡ true = some in cc)

@@ -1,8 +1,9 @@
 //! The building of a problem.
 
-ghost use Rattle.std.specs.Prelude.{◌≡◌, ◌<◌, ◌≤◌, ◌^◌, length, All, IfOk};
+ghost use Rattle.std.specs.Prelude.{◌≡◌, ◌<◌, ◌≤◌, ◌^◌, length, All, IfOk, if◌then◌else◌};
 ghost use Rattle.std.specs.Option.{option_map};
-ghost use Rattle.fp_tech.specs.Book.{place_of, Adds};
+ghost use Rattle.fp_tech.specs.Book.{place_of, is_among, Adds};
+ghost use Rattle.fp_tech.specs.declared.fault.BuildFault.TheVariants.{Twice, Unknown};
 ghost use Rattle.fp_netlist.specs.KeptGroups.{AreGroups};
 ghost use Rattle.fp_netlist.specs.KeptProblem.{cell_keys, net_keys};
 ghost use Rattle.fp_netlist.specs.Netlist.{cell_names, IsSound, no_cells, with_inst, with_net, with_conn, inst_refusal, net_refusal, connect_refusal};
@@ -118,18 +119,28 @@ impl ProblemBuilder {
         if count >= CELLS {
             return Err(BuildFault::Limit);
         }
-        if self.cell_names.place(name).is_some() {
+        let Some(cell) = KeptCell::of(&self.dies, lib) else {
+            return Err(self.twice_or_unknown(name));
+        };
+        if !self.cell_names.add(self.alloc, name)? {
             return Err(BuildFault::Twice);
         }
-        let Some(cell) = KeptCell::of(&self.dies, lib) else {
-            return Err(BuildFault::Unknown);
-        };
-        self.cell_names.push(self.alloc, name)?;
         if self.cells.push(cell).is_err() {
             self.cell_names.truncate(count);
             return Err(BuildFault::Memory);
         }
         Ok(CellId(count as u32))
+    }
+
+    // Why a cell of a library cell that a die lacks is refused.
+    fn twice_or_unknown(&self, name: &[u8]) -> BuildFault
+        ensures { result ≡ if is_among name.now (cell_names self.now) then Twice else Unknown }
+    {
+        if self.cell_names.place(name).is_some() {
+            BuildFault::Twice
+        } else {
+            BuildFault::Unknown
+        }
     }
 
     /// Adds a net. `Limit` exactly at 2^18 nets, else `Twice` exactly where a net has the name.
@@ -141,10 +152,9 @@ impl ProblemBuilder {
         if count >= CELLS {
             return Err(BuildFault::Limit);
         }
-        if self.net_names.place(name).is_some() {
+        if !self.net_names.add(self.alloc, name)? {
             return Err(BuildFault::Twice);
         }
-        self.net_names.push(self.alloc, name)?;
         Ok(NetId(count as u32))
     }
 

@@ -57,8 +57,8 @@ impl KeptConn {
             (IsTrue (is_none (pin_for dies.now lib.0 pin.now Top) || is_none (pin_for dies.now lib.0 pin.now Bottom)))
             (IsConnOf dies.now lib.0 net cell pin.now) }
     {
-        let (top_pin, top) = pin_on(dies, lib, pin, Die::Top)?;
-        let (bottom_pin, bottom) = pin_on(dies, lib, pin, Die::Bottom)?;
+        let (top_pin, top) = pin_on(dies, lib, pin, Die::Top, 0)?;
+        let (bottom_pin, bottom) = pin_on(dies, lib, pin, Die::Bottom, top_pin)?;
         let conn = Conn {
             cell,
             net,
@@ -92,16 +92,23 @@ fn size_on(dies: &Dies, lib: LibId, die: Die) -> Option<(u32, u32)>
     }
 }
 
-// The number and the offset of a library cell's pin in the technology of a die.
-fn pin_on(dies: &Dies, lib: LibId, name: &[u8], die: Die) -> Option<(u32, (u32, u32))>
+// The number and the offset of a library cell's pin in the technology of a die. It is looked for at the number `guess`
+// first: most library cells have the same pins in both technologies, in the same order.
+fn pin_on(
+    dies: &Dies,
+    lib: LibId,
+    name: &[u8],
+    die: Die,
+    guess: u32,
+) -> Option<(u32, (u32, u32))>
     requires { IsSome (lib_for dies.now lib.0 die) }
     ensures { MatchOption result (pin_for dies.now lib.0 name.now die ≡ None)
         (λ found. IsPinOf dies.now lib.0 name.now die found.0 found.1) }
 {
     let tech = dies.spec(die).tech;
     let book = dies.book();
-    let pin = book.pin_named(tech, lib, name)?;
-    Some((pin, small(book.pin_at(tech, lib, pin))))
+    let (pin, at) = book.find_pin(tech, lib, guess, name)?;
+    Some((pin, small(at)))
 }
 
 // An offset as the numbers that are kept.

@@ -11,7 +11,7 @@ use Rattle.indexmap.specs.IndexSet.{insert_key}
 use Rattle.std.specs.Global.{Vec}
 use Rattle.std.specs.Map.{keys_of}
 use Rattle.indexmap.specs.IndexMap.{insert_entry}
-use Rattle.fp_tech.specs.Book.{Lib, place_of, pin_names}
+use Rattle.fp_tech.specs.Book.{Lib, place_of, is_among, with_name, pin_names}
 use Rattle.fp_tech.specs.KeptBook.{pin_of}
 
 pub position-cons : {X : Type 0} (p : X → Bool) (x : X) (xs : List X) → position p (x ∷ xs) ≡ cond (p x) (Some 0) (option_map (λ k. k + 1) (position p xs))
@@ -39,15 +39,24 @@ module _ {X : Type 0} (f : X → List ℕ) (name : List ℕ) where
       by false None = refl
       by false (Some k) = refl
 
+  -- a key of that name goes last where no key has the name
+  pub added : (xs : List X) (x : X) (names : List (List ℕ)) → f x ≡ name → map f xs ≡ names
+      → map f (insert_key (λ a b. bytes_eq (f a) (f b)) xs x) ≡ with_name names name
+  added xs x names named seen =
+      ap (λ b. map f (if b then xs else xs ++ x ∷ [])) there ∙ by (is_among name names)
+    where
+      there : list_any (λ y. bytes_eq (f x) (f y)) xs ≡ is_among name names
+      there = ap (λ n. list_any (λ y. bytes_eq n (f y)) xs) named ∙ is_some-place xs ∙ ap (λ ns. is_among name ns) seen
+
+      by : (b : Bool) → map f (if b then xs else xs ++ x ∷ []) ≡ (if b then names else names ++ name ∷ [])
+      by true = seen
+      by false = map-append f xs (x ∷ []) ∙ ap (λ front. front ++ f x ∷ []) seen ∙ ap (λ n. names ++ n ∷ []) named
+
   -- a name that was not there goes last
   pub pushed : (xs : List X) (x : X) (names : List (List ℕ)) → f x ≡ name → map f xs ≡ names → place_of name names ≡ None
       → map f (insert_key (λ a b. bytes_eq (f a) (f b)) xs x) ≡ names ++ name ∷ []
   pushed xs x names named seen new =
-      ap (λ b. map f (if b then xs else xs ++ x ∷ [])) absent ∙ map-append f xs (x ∷ []) ∙ ap (λ front. front ++ f x ∷ []) seen
-      ∙ ap (λ n. names ++ n ∷ []) named
-    where
-      absent : list_any (λ y. bytes_eq (f x) (f y)) xs ≡ false
-      absent = ap (λ n. list_any (λ y. bytes_eq n (f y)) xs) named ∙ is_some-place xs ∙ ap (λ ns. is_some (place_of name ns)) seen ∙ ap is_some new
+      added xs x names named seen ∙ ap (λ b. if b then names else names ++ name ∷ []) (ap is_some new)
 
 -- the kept names of pins are those of the list of pins
 pub pin_names_kept : (entries : List (Vec ℕ × (ℕ × ℕ))) → map (λ v. v.items) (keys_of entries) ≡ map (λ pin. pin.name) (map pin_of entries)

@@ -1,5 +1,5 @@
 -- The book of technologies as plain lists, and what each adding call makes of it.
-use Rattle.std.specs.Prelude.{◌≡◌, ℕ, zero, suc, ◌+◌, ◌<◌, ◌≤◌, ◌^◌, Bool, false, ◌==◌, nat_le, if◌then◌else◌, List, [], ◌∷◌, ◌++◌, length, map, find, Option, Some, None, is_some, option_map, option_and_then, unwrap_or, slice_get, nat_eq, pos, All, sum_by, Result, Ok, Err}
+use Rattle.std.specs.Prelude.{◌≡◌, ℕ, zero, suc, ◌+◌, ◌<◌, ◌≤◌, ◌^◌, Bool, false, ◌==◌, nat_le, if◌then◌else◌, List, [], ◌∷◌, ◌++◌, length, map, find, Option, Some, None, is_some, option_map, option_and_then, unwrap_or, slice_get, nat_eq, pos, ◌≤ℤ◌, All, sum_by, Result, Ok, Err}
 use Rattle.std.specs.List.{IsDistinct}
 use Rattle.std.specs.Str.{bytes_eq}
 use Rattle.fp_base.specs.declared.ids.Point.{Point}
@@ -147,6 +147,13 @@ Adds refused answer old grown (Err Memory) new = new ≡ old
 Adds refused answer old grown (Err Twice) new = (refused ≡ Some Twice) × (new ≡ old)
 Adds refused answer old grown (Err Unknown) new = (refused ≡ Some Unknown) × (new ≡ old)
 Adds refused answer old grown (Err Limit) new = (refused ≡ Some Limit) × (new ≡ old)
+
+-- a pin that was looked for by its name: its place among the pins, and its offset
+pub record IsPinFound (pins : List Pin) (name : List ℕ) (found : ℕ × Point) : Type 0 where
+  pub place : place_of name (names_of pins) ≡ Some found.0
+  pub offset : option_map offset_of (slice_get pins found.0) ≡ Some found.1
+  pub x : (pos 0 ≤ℤ found.1.x) × (found.1.x ≤ℤ pos (2 ^ 30))
+  pub y : (pos 0 ≤ℤ found.1.y) × (found.1.y ≤ℤ pos (2 ^ 30))
 
 -- The limits of a book: at most 16 technologies of 4,096 library cells of 1,024 pins; names that are distinct, sizes from 1 to 2^30,
 -- offsets up to 2^30; and each library cell's name is in the list, which has no other.

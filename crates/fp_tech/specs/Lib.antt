@@ -8,6 +8,7 @@ pub mod LibNameLaws
 pub mod Rows
 pub mod RunsLaws
 pub mod RowByRowLaws
+pub mod PlacesLaws
 pub mod Plan
 pub mod PlanLaws
 pub mod Slots

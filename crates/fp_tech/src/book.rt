@@ -1,8 +1,8 @@
 //! The book of technologies: their library cells with sizes and pins, each found by its name.
 
-ghost use Rattle.std.specs.Prelude.{◌≡◌, ◌<◌, ◌≤◌, ◌^◌, ℕ, Some, length, map, slice_get, IsTrue, pos, ◌≤ℤ◌};
+ghost use Rattle.std.specs.Prelude.{◌≡◌, ◌<◌, ◌≤◌, ◌^◌, ℕ, None, Some, length, map, slice_get, IsTrue, MatchOption, pos, ◌≤ℤ◌};
 ghost use Rattle.std.specs.Option.{option_map};
-ghost use Rattle.fp_tech.specs.Book.{no_techs, place_of, tech_names, libs_of, lib_ids, lib_in, has, has_name, pins_in, id_for, with_tech, with_lib, with_pin, tech_refusal, lib_refusal, pin_refusal, Adds, size_of, offset_of, names_of, IsLib, IsBook};
+ghost use Rattle.fp_tech.specs.Book.{no_techs, place_of, tech_names, libs_of, lib_ids, lib_in, has, has_name, pins_in, id_for, with_tech, with_lib, with_pin, tech_refusal, lib_refusal, pin_refusal, Adds, size_of, offset_of, names_of, IsPinFound, IsLib, IsBook};
 
 use crate::fault::BuildFault;
 use crate::library::{LibCell, Library};
@@ -250,6 +250,24 @@ impl TechBook {
         Some(place as u32)
     }
 
+    /// The pin of that name: its number, and its offset from its cell's lower left corner. It is looked for at the number
+    /// `guess` first.
+    pub fn find_pin(
+        &self,
+        tech: TechId,
+        lib: LibId,
+        guess: u32,
+        name: &[u8],
+    ) -> Option<(u32, Point)>
+        requires { IsTrue (has self.now tech.0 lib.0) }
+        ensures { MatchOption result (place_of name.now (names_of (pins_in self.now tech.0 lib.0)) ≡ None)
+            (IsPinFound (pins_in self.now tech.0 lib.0) name.now) }
+    {
+        let cell = self.cell(tech, lib);
+        let place = cell.pin_named_near(guess as usize, name)?;
+        Some((place as u32, point(cell.offset(place))))
+    }
+
     /// The offset of a pin from its cell's lower left corner.
     pub fn pin_at(&self, tech: TechId, lib: LibId, pin: u32) -> Point
         requires there { IsTrue (has self.now tech.0 lib.0) }
@@ -258,11 +276,17 @@ impl TechBook {
         ensures x { (pos 0 ≤ℤ result.x) × (result.x ≤ℤ pos (2 ^ 30)) }
         ensures y { (pos 0 ≤ℤ result.y) × (result.y ≤ℤ pos (2 ^ 30)) }
     {
-        let (x, y) = self.cell(tech, lib).offset(pin as usize);
-        Point {
-            x: i64::from(x),
-            y: i64::from(y),
-        }
+        point(self.cell(tech, lib).offset(pin as usize))
+    }
+}
+
+// An offset as a point.
+fn point(at: (u32, u32)) -> Point
+    ensures { result ≡ record { x = pos at.0; y = pos at.1 } }
+{
+    Point {
+        x: i64::from(at.0),
+        y: i64::from(at.1),
     }
 }
 

@@ -3,6 +3,7 @@
 ghost use Rattle.std.specs.Prelude.{◌≡◌, ◌+◌, ◌<◌, ◌++◌, ◌∷◌, [], None, Some, ◌==◌, List, length, map, find, is_some, slice_get, OnOk, OnErr, IsSome, IfSome, IsTrue, nat_eq};
 ghost use Rattle.std.specs.List.{IsDistinct};
 ghost use Rattle.std.specs.Option.{option_map, option_copied};
+ghost use Rattle.std.specs.Str.{bytes_eq};
 ghost use Rattle.fp_tech.specs.Book.{Lib, Pin, place_of, pin_names, names_of, more_pins, pins_refusal, Adds};
 ghost use Rattle.fp_tech.specs.KeptBook.{id_of, pins_at};
 
@@ -87,6 +88,19 @@ impl LibCell {
         ensures within { IfSome result (λ p. p < length self.now.pins) }
     {
         self.pins.get_index_of(name)
+    }
+
+    /// The number of the pin of that name, which is looked for at the number `guess` first: it costs no hashing there.
+    pub fn pin_named_near(&self, guess: usize, name: &[u8]) -> Option<usize>
+        requires { IsDistinct bytes_eq (names_of self.now.pins) }
+        ensures place { result ≡ place_of name.now (names_of self.now.pins) }
+        ensures within { IfSome result (λ p. p < length self.now.pins) }
+    {
+        if guess < self.pins() && self.pin_name(guess) == name {
+            Some(guess)
+        } else {
+            self.pin_named(name)
+        }
     }
 
     pub fn add_pin(&mut self, alloc: Global, name: &[u8], x: u32, y: u32) -> Result<(), BuildFault>

@@ -1,7 +1,7 @@
 //! Names in the order of adding, which are found by hashing.
 
-ghost use Rattle.std.specs.Prelude.{◌≡◌, ◌+◌, ◌<◌, ◌++◌, ◌∷◌, [], None, length, take, slice_get, Some, unwrap_or, IfOk, IfSome, OnOk, OnErr};
-ghost use Rattle.fp_tech.specs.Book.{place_of, with_name};
+ghost use Rattle.std.specs.Prelude.{◌≡◌, ◌+◌, ◌<◌, ◌++◌, ◌∷◌, [], None, length, not, take, slice_get, Some, unwrap_or, IfOk, IfSome, OnOk, OnErr};
+ghost use Rattle.fp_tech.specs.Book.{place_of, is_among, with_name};
 
 use indexmap::IndexSet;
 use std::alloc::{AllocError, Global};
@@ -63,6 +63,18 @@ impl Names {
         let name = Vec::from_slice(alloc, name)?;
         self.set.insert(name)?;
         Ok(())
+    }
+
+    /// Adds a name where it is not there, and answers whether it is new. Where memory is wanting the names stay as they
+    /// were.
+    pub fn add(&mut self, alloc: Global, name: &[u8]) -> Result<bool, AllocError>
+        ensures new { IfOk result (λ new. new ≡ not (is_among name.now self.old)) }
+        ensures ok { OnOk result (self.new ≡ with_name self.old name.now) }
+        ensures err { OnErr result (self.new ≡ self.old) }
+    {
+        let name = Vec::from_slice(alloc, name)?;
+        let new = self.set.insert(name)?;
+        Ok(new)
     }
 
     /// The number of a name, which is added where it is not there. Where memory is wanting the names
