@@ -94,13 +94,7 @@ fn size_on(dies: &Dies, lib: LibId, die: Die) -> Option<(u32, u32)>
 
 // The number and the offset of a library cell's pin in the technology of a die. It is looked for at the number `guess`
 // first: most library cells have the same pins in both technologies, in the same order.
-fn pin_on(
-    dies: &Dies,
-    lib: LibId,
-    name: &[u8],
-    die: Die,
-    guess: u32,
-) -> Option<(u32, (u32, u32))>
+fn pin_on(dies: &Dies, lib: LibId, name: &[u8], die: Die, guess: u32) -> Option<(u32, (u32, u32))>
     requires { IsSome (lib_for dies.now lib.0 die) }
     ensures { MatchOption result (pin_for dies.now lib.0 name.now die ≡ None)
         (λ found. IsPinOf dies.now lib.0 name.now die found.0 found.1) }

@@ -37,8 +37,8 @@ invariant_of-self-then-is_err c =
     let new = name_new c.self.inside.cell_names c.add.new.self (cell_names c.args.self.now) c.args.name.now c.in_ok-add.field-0 s.names_are c.in_ok-add.ensures.new c.in_ok-add.ensures.ok c.if-not-branch.false in
     let many : length c.self.inside.cell_names ≡ c.len-count.result = omega (arith, s.as_many, c.len-count.ensures, c.self.inside.cells.ok.0) in
     let names : c.truncate.new.self ≡ c.self.inside.cell_names =
-      c.truncate.ensures ∙ ap (take c.len-count.result) new.1
-      ∙ take-append-le c.len-count.result c.self.inside.cell_names (c.args.name.now ∷ []) (omega (arith, many)) ∙ take_all c.len-count.result c.self.inside.cell_names (omega (arith, many)) in
+    c.truncate.ensures ∙ ap (take c.len-count.result) new.1
+    ∙ take-append-le c.len-count.result c.self.inside.cell_names (c.args.name.now ∷ []) (omega (arith, many)) ∙ take_all c.len-count.result c.self.inside.cell_names (omega (arith, many)) in
     let cells : c.push.new.self.items ≡ c.self.inside.cells.items = grind (arith, common_steps) in
     rw (names, cells) c.self.invariant
 

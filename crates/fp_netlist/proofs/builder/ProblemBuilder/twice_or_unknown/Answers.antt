@@ -8,7 +8,7 @@ pub returns-then-is_some : goal.returns-then-is_some
 returns-then-is_some c =
     let s = seen _ _ _ _ _ _ c.self.invariant c.self.view_is in
     let there : is_some (place_of c.args.name.now (cell_names c.args.self.now)) ≡ true =
-      ap (λ names. is_some (place_of c.args.name.now names)) (sym s.names_are) ∙ ap is_some (sym c.place.ensures.place) ∙ sym c.is_some.ensures ∙ c.if-is_some.true in
+    ap (λ names. is_some (place_of c.args.name.now names)) (sym s.names_are) ∙ ap is_some (sym c.place.ensures.place) ∙ sym c.is_some.ensures ∙ c.if-is_some.true in
     rw there refl
 
 pub returns-else-is_some : goal.returns-else-is_some
