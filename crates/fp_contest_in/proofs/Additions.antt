@@ -1,21 +1,21 @@
 -- What one statement adds to a problem.
-use Rattle.std.proofs.Common.{◌≡◌, ℕ, ◌-◌, ◌^◌, ◌<◌, Bool, true, false, List, [], length, Option, Some, None, Result, Ok, Err, refl, sym, ap, ◌∙◌, arith}
+use Rattle.std.proofs.Common.{◌≡◌, ℕ, ◌-◌, ◌^◌, ◌<◌, Bool, true, false, List, [], length, Option, Some, None, Result, Ok, Err, if◌then◌else◌, refl, sym, ap, subst, ◌∙◌, arith}
 use Rattle.std.specs.Prelude.{is_some, is_none, ◌||◌, ◌&&◌, codes, option_map, nat_le}
 use Rattle.std.proofs.lemmas.List.{length-map}
 use Rattle.fp_base.specs.declared.ids.CellId.{CellId}
 use Rattle.fp_base.specs.declared.ids.Die.TheVariants.{Top, Bottom}
 use Rattle.fp_text.specs.Words.{Word}
-use Rattle.fp_text.specs.Reading.{Left, Read, fault, keyword_next, word_next, number_next, many_next}
+use Rattle.fp_text.specs.Reading.{Left, Read, GivesFault, fault, keyword_next, word_next, name_next, number_next, many_next}
 use Rattle.fp_text.specs.declared.fault.Kind.TheVariants as kinds
 use Rattle.fp_text.specs.declared.fault.TextFault.{TextFault}
 use Rattle.fp_text.specs.declared.fault.TextFault.TheVariants.{Wrong, Memory}
-use Rattle.fp_tech.specs.Book.{place_of, refusal}
+use Rattle.fp_tech.specs.Book.{place_of, is_among, refusal}
 use Rattle.fp_tech.specs.BookLaws.{place_within}
 use Rattle.fp_netlist.specs.Netlist.{Netlist, cell_names, pin_place, with_inst, with_net, with_conn, connect_refusal}
 use Rattle.fp_contest_in.specs.Text.{InstText, ConnText, with_inst_text, with_conn_text, with_conn_texts, with_net_text}
 use Rattle.fp_contest_in.specs.Grammar.{has_pin, most_conns}
 use Rattle.fp_contest_in.specs.Statements.{new_name_next, lib_name_next, inst_next, path_of, net_pin_next, net_next}
-use Rattle.fp_contest_in.specs.Given.{IsLibOf}
+use Rattle.fp_contest_in.specs.Given.{IsLibOf, GivesNew, GivesCount}
 use Rattle.fp_contest_in.specs.Growing.{Grows, conn_item}
 use Rattle.fp_contest_in.proofs.ProblemLoops.{pin_as}
 
@@ -25,6 +25,42 @@ pub inst_added : (p q : Netlist) (l mid after r : Left) (at : ℕ) (name : List 
 unfolding inst_next
 inst_added p q l mid after r at name lib keyword named known is =
     (record { name = name; lib = known.0 }, rw (keyword, named, known.1) refl, is ∙ ap (with_inst p name) (sym known.2.number))
+
+pub some_of : {A : Type 0} (f : ℕ → A) (o : Option ℕ) → is_some (option_map f o) ≡ is_some o
+some_of f None = refl
+some_of f (Some k) = refl
+
+-- a name that was read, and is new or not
+pub new_name : (before : List (List ℕ)) (l after : Left) (name : Word) → name_next l ≡ Ok (name, after) → is_among name.text before ≡ false → new_name_next before l ≡ Ok (name.text, after)
+unfolding new_name_next
+new_name before l after name read new = rw (read, new) refl
+
+pub old_name : (before : List (List ℕ)) (l after : Left) (name : Word) → name_next l ≡ Ok (name, after) → is_among name.text before ≡ true → new_name_next before l ≡ fault name.at kinds.Twice
+unfolding new_name_next
+old_name before l after name read there = rw (read, there) refl
+
+-- the instance whose library cell was read
+pub inst_done : {U : Type 0} (result : Result U TextFault) (p q : Netlist) (l mid named r : Left) (at lib : ℕ) (name : Word) → keyword_next (codes "Inst") l ≡ Ok (at, mid) → name_next mid ≡ Ok (name, named)
+    → (lib_name : List ℕ) × (lib_name_next p.plan named ≡ Ok (lib_name, r)) × IsLibOf p.plan lib_name lib → GivesNew result name.at (is_among name.text (cell_names p)) q (with_inst p name.text lib)
+    → Grows with_inst_text result p q r (inst_next p.plan (cell_names p) l)
+unfolding inst_next
+inst_done (Err Memory) p q l mid named r at lib name keyword read known new = tt
+inst_done (Err (Wrong where_at kind)) p q l mid named r at lib name keyword read known new =
+    rw (keyword, old_name (cell_names p) mid named name read new.0, new.1, new.2) refl
+inst_done (Ok u) p q l mid named r at lib name keyword read known new =
+    inst_added p q l mid named r at name.text lib keyword (new_name (cell_names p) mid named name read new.0) known new.1
+
+-- the instance whose library cell was not read
+pub inst_behind : (behind : TextFault) (p : Netlist) (l mid named : Left) (at : ℕ) (name : Word) → keyword_next (codes "Inst") l ≡ Ok (at, mid) → name_next mid ≡ Ok (name, named)
+    → GivesFault behind (lib_name_next p.plan named) → GivesFault (if is_among name.text (cell_names p) then Wrong name.at kinds.Twice else behind) (inst_next p.plan (cell_names p) l)
+unfolding inst_next
+inst_behind behind p l mid named at name keyword read gives = by (is_among name.text (cell_names p)) refl behind gives
+  where
+    by : (there : Bool) → is_among name.text (cell_names p) ≡ there → (behind : TextFault) → GivesFault behind (lib_name_next p.plan named)
+        → GivesFault (if there then Wrong name.at kinds.Twice else behind) (inst_next p.plan (cell_names p) l)
+    by true e behind gives = rw (keyword, old_name (cell_names p) mid named name read e) refl
+    by false e Memory gives = tt
+    by false e (Wrong where_at kind) gives = rw (keyword, new_name (cell_names p) mid named name read e, gives) refl
 
 -- ---- connections
 
@@ -77,3 +113,22 @@ net_added (Ok done) p with q l mid named counted r at conns count net name keywo
       rw (keyword, new, ← many, number, same) refl,
       grows.2 ∙ ap (λ (s : Netlist). with_conn_texts net s grows.0) is ∙ ap (λ (n : ℕ). with_conn_texts n (with_net p name) grows.0) net_is,
     )
+
+-- the net whose name is there
+pub net_twice : (p : Netlist) (l mid named : Left) (at : ℕ) (name : Word) → keyword_next (codes "Net") l ≡ Ok (at, mid) → name_next mid ≡ Ok (name, named) → is_among name.text p.nets ≡ true
+    → net_next p p.nets (length p.conns) l ≡ fault name.at kinds.Twice
+unfolding net_next
+net_twice p l mid named at name keyword read there = rw (keyword, old_name p.nets mid named name read there) refl
+
+-- the net whose number of connections was not read
+pub net_behind : (e : TextFault) (p : Netlist) (l mid named left : Left) (at : ℕ) (name : Word) → keyword_next (codes "Net") l ≡ Ok (at, mid) → name_next mid ≡ Ok (name, named)
+    → GivesCount (length p.conns) name.at (is_among name.text p.nets) (Err e) left (number_next 0 (most_conns - length p.conns) kinds.Limit named)
+    → GivesFault e (net_next p p.nets (length p.conns) l)
+unfolding net_next
+net_behind e p l mid named left at name keyword read gives = by (is_among name.text p.nets) refl e gives
+  where
+    by : (there : Bool) → is_among name.text p.nets ≡ there → (e : TextFault)
+        → GivesCount (length p.conns) name.at there (Err e) left (number_next 0 (most_conns - length p.conns) kinds.Limit named) → GivesFault e (net_next p p.nets (length p.conns) l)
+    by true there e gives = subst (λ f. GivesFault f (net_next p p.nets (length p.conns) l)) (sym (gives.1 refl)) (net_twice p l mid named at name keyword read there)
+    by false there Memory gives = tt
+    by false there (Wrong where_at kind) gives = rw (keyword, new_name p.nets mid named name read there, gives.0 refl) refl

@@ -1,9 +1,9 @@
 -- What the parts of the reader answer.
-use Rattle.std.specs.Prelude.{◌≡◌, ◌&&◌, ℕ, List, true, false, is_some, Result, Ok, Err}
+use Rattle.std.specs.Prelude.{◌≡◌, ◌+◌, ◌^◌, ◌≤◌, ◌&&◌, ℕ, Bool, List, true, false, is_some, Result, Ok, Err}
 use Rattle.fp_base.specs.declared.ids.Die.TheVariants.{Top, Bottom}
 use Rattle.fp_base.specs.declared.ids.LibId.{LibId}
 use Rattle.fp_text.specs.Reading.{Left, Read, Fault, GivesFault}
-use Rattle.fp_text.specs.declared.fault.Kind.TheVariants.{Limit}
+use Rattle.fp_text.specs.declared.fault.Kind.TheVariants.{Limit, Twice}
 use Rattle.fp_text.specs.declared.fault.TextFault.{TextFault}
 use Rattle.fp_text.specs.declared.fault.TextFault.TheVariants.{Wrong, Memory}
 use Rattle.fp_tech.specs.Book.{Book, id_for}
@@ -49,3 +49,15 @@ GivesLib plan (Err e) left read = GivesFault e read
 abbrev pub GivesNetlist : {U : Type 0} → Plan → Result U TextFault → Netlist → Result (List InstText × List NetText) Fault → Type 0
 GivesNetlist plan (Ok done) p read = (insts : List InstText) × (nets : List NetText) × (read ≡ Ok (insts, nets)) × (p ≡ with_net_texts (with_inst_texts (no_cells plan) insts) nets)
 GivesNetlist plan (Err e) p read = GivesFault e read
+
+-- what adding a name made of a problem: it grew, or the name is there, at this place
+abbrev pub GivesNew : {U : Type 0} → Result U TextFault → ℕ → Bool → Netlist → Netlist → Type 0
+GivesNew (Ok u) at there new grown = (there ≡ false) × (new ≡ grown)
+GivesNew (Err (Wrong where_at kind)) at there new grown = (there ≡ true) × (where_at ≡ at) × (kind ≡ Twice)
+GivesNew (Err Memory) at there new grown = Unit {0}
+
+-- the number of connections, which with those used are at most 2^21, that was read behind a name, or the fault, which is
+-- that of the name where it is there
+abbrev pub GivesCount : ℕ → ℕ → Bool → Result ℕ TextFault → Left → Read ℕ → Type 0
+GivesCount used at there (Ok count) left read = (read ≡ Ok (count, left)) × (used + count ≤ 2 ^ 21)
+GivesCount used at there (Err e) left read = (there ≡ false → GivesFault e read) × (there ≡ true → e ≡ Wrong at Twice)

@@ -1,17 +1,18 @@
 //! Reading the instances into a builder.
 
-ghost use Rattle.std.specs.Prelude.{◌≡◌, ◌<◌, ◌≤◌, ◌^◌, [], length, true, false, IfOk, IfSome, is_some};
-ghost use Rattle.fp_text.specs.Reading.{Gives, many_next};
+ghost use Rattle.std.specs.Prelude.{◌≡◌, ◌<◌, ◌≤◌, ◌^◌, [], length, true, IfSome, is_some};
+ghost use Rattle.fp_base.specs.declared.ids.Die.TheVariants.{Top, Bottom};
+ghost use Rattle.fp_text.specs.Reading.{many_next};
 ghost use Rattle.fp_tech.specs.Book.{is_among, has};
 ghost use Rattle.fp_tech.specs.Plan.{spec_of};
-ghost use Rattle.fp_netlist.specs.Netlist.{cell_names};
+ghost use Rattle.fp_netlist.specs.Netlist.{cell_names, lib_for, with_inst};
 ghost use Rattle.fp_contest_in.specs.Text.{with_inst_text, with_inst_texts};
 ghost use Rattle.fp_contest_in.specs.Grammar.{has_lib};
-ghost use Rattle.fp_contest_in.specs.Statements.{new_name_next, lib_name_next, inst_next, insts_next};
+ghost use Rattle.fp_contest_in.specs.Statements.{lib_name_next, inst_next, insts_next};
 ghost use Rattle.fp_contest_in.specs.Growing.{Grows, inst_item};
-ghost use Rattle.fp_contest_in.specs.Given.{IsLibOf, GivesLib};
+ghost use Rattle.fp_contest_in.specs.Given.{IsLibOf, GivesLib, GivesNew};
 
-use crate::steps::{number, unless_there, wrong};
+use crate::steps::{fault_behind, number, wrong};
 use fp_base::{Die, LibId};
 use fp_netlist::ProblemBuilder;
 use fp_tech::{BuildFault, Dies};
@@ -50,33 +51,38 @@ fn known_lib(dies: &Dies, tokens: &mut Tokens<'_>) -> Result<LibId, TextFault>
     lib_named(dies, name.text).ok_or(wrong(name.at, Kind::Unknown))
 }
 
-/// The next token as the name of an instance that is not there, else `Twice`.
-#[tactic(auto, unfolding(crate::specs::Statements::new_name_next))]
-fn new_inst_name<'a>(
-    builder: &ProblemBuilder,
-    tokens: &mut Tokens<'a>,
-) -> Result<Word<'a>, TextFault>
-    ensures gives { Gives (λ w. w.text.now) result tokens.new (new_name_next (cell_names builder.now) tokens.old) }
-    ensures new { IfOk result (λ w. is_among w.text.now (cell_names builder.now) ≡ false) }
+/// Adds an instance, or `Twice` at its name where it is there.
+fn add_inst(builder: &mut ProblemBuilder, name: Word<'_>, lib: LibId) -> Result<(), TextFault>
+    requires room { length builder.old.cells < 2 ^ 18 }
+    requires top { is_some (lib_for builder.old.plan lib.0 Top) ≡ true }
+    requires bottom { is_some (lib_for builder.old.plan lib.0 Bottom) ≡ true }
+    ensures { GivesNew result name.entry.at (is_among name.entry.text.now (cell_names builder.old)) builder.new
+        (with_inst builder.old name.entry.text.now lib.0) }
 {
-    let name = tokens.name()?;
-    unless_there(name, builder.cell_named(name.text).is_some())
+    match builder.add_inst(name.text, lib) {
+        Ok(_) => Ok(()),
+        Err(BuildFault::Twice) => Err(wrong(name.at, Kind::Twice)),
+        Err(BuildFault::Memory) => Err(TextFault::Memory),
+        Err(_) => unreachable!(),
+    }
 }
 
-/// Adds the next instance.
-#[tactic(auto, unfolding(crate::specs::Statements::inst_next))]
+/// Adds the next instance. Its name is looked up where it is added, or where its library cell does not read: a name that
+/// is there is the first fault.
+#[tactic(auto, unfolding(crate::specs::Statements::inst_next, crate::specs::Statements::new_name_next))]
 fn next_inst(builder: &mut ProblemBuilder, tokens: &mut Tokens<'_>) -> Result<(), TextFault>
     requires { length builder.old.cells < 2 ^ 18 }
     ensures { Grows with_inst_text result builder.old builder.new tokens.new
         (inst_next builder.old.plan (cell_names builder.old) tokens.old) }
 {
     tokens.keyword(b"Inst")?;
-    let name = new_inst_name(builder, tokens)?;
-    let lib = known_lib(builder.dies(), tokens)?;
-    match builder.add_inst(name.text, lib) {
-        Ok(_) => Ok(()),
-        Err(BuildFault::Memory) => Err(TextFault::Memory),
-        Err(_) => unreachable!(),
+    let name = tokens.name()?;
+    match known_lib(builder.dies(), tokens) {
+        Ok(lib) => add_inst(builder, name, lib),
+        Err(fault) => {
+            let there = builder.cell_named(name.text).is_some();
+            Err(fault_behind(name, there, fault))
+        }
     }
 }
 

@@ -1,15 +1,17 @@
 //! Reading the nets into a builder.
 
-ghost use Rattle.std.specs.Prelude.{◌≡◌, ◌<◌, ◌≤◌, ◌+◌, ◌^◌, [], length, true, false, IfOk};
+ghost use Rattle.std.specs.Prelude.{◌≡◌, ◌<◌, ◌≤◌, ◌+◌, ◌-◌, ◌^◌, [], length, IfOk};
 ghost use Rattle.std.specs.Option.{option_map};
-ghost use Rattle.fp_text.specs.Reading.{Gives, many_next};
+ghost use Rattle.fp_text.specs.Reading.{number_next, many_next};
 ghost use Rattle.fp_tech.specs.Book.{is_among};
-ghost use Rattle.fp_netlist.specs.Netlist.{cell_names};
+ghost use Rattle.fp_netlist.specs.Netlist.{with_net};
 ghost use Rattle.fp_contest_in.specs.Text.{with_conn_text, with_conn_texts, with_net_text, with_net_texts};
-ghost use Rattle.fp_contest_in.specs.Statements.{new_name_next, cut_at_slash, path_of, net_pin_next, net_next, nets_next};
+ghost use Rattle.fp_contest_in.specs.Statements.{cut_at_slash, path_of, net_pin_next, net_next, nets_next};
+ghost use Rattle.fp_contest_in.specs.Grammar.{most_conns};
+ghost use Rattle.fp_contest_in.specs.Given.{GivesNew, GivesCount};
 ghost use Rattle.fp_contest_in.specs.Growing.{Grows, conn_item, net_item};
 
-use crate::steps::{number, unless_there, wrong};
+use crate::steps::{fault_behind, number, wrong};
 use fp_base::NetId;
 use fp_netlist::ProblemBuilder;
 use fp_tech::BuildFault;
@@ -87,34 +89,52 @@ fn conns(
     Ok(())
 }
 
-/// The next token as the name of a net that is not there, else `Twice`.
-#[tactic(auto, unfolding(crate::specs::Statements::new_name_next))]
-fn new_net_name<'a>(
-    builder: &ProblemBuilder,
-    tokens: &mut Tokens<'a>,
-) -> Result<Word<'a>, TextFault>
-    ensures gives { Gives (λ w. w.text.now) result tokens.new (new_name_next builder.now.nets tokens.old) }
-    ensures new { IfOk result (λ w. is_among w.text.now builder.now.nets ≡ false) }
+/// Adds a net, or `Twice` at its name where it is there.
+fn add_net(builder: &mut ProblemBuilder, name: Word<'_>) -> Result<NetId, TextFault>
+    requires { length builder.old.nets < 2 ^ 18 }
+    ensures new { GivesNew result name.entry.at (is_among name.entry.text.now builder.old.nets) builder.new
+        (with_net builder.old name.entry.text.now) }
+    ensures number { IfOk result (λ net. net.0 ≡ length builder.old.nets) }
 {
-    let name = tokens.name()?;
-    unless_there(name, builder.net_named(name.text).is_some())
+    match builder.add_net(name.text) {
+        Ok(net) => Ok(net),
+        Err(BuildFault::Twice) => Err(wrong(name.at, Kind::Twice)),
+        Err(BuildFault::Memory) => Err(TextFault::Memory),
+        Err(_) => unreachable!(),
+    }
 }
 
-/// Adds the next net with its connections; `Limit` where they are with those of the nets before more than 2^21.
-#[tactic(auto, unfolding(crate::specs::Statements::net_next))]
+/// The number of connections of a net of that name; `Limit` where they are with those of the nets before more than
+/// 2^21. A name that is there is the first fault.
+fn count_of(
+    builder: &ProblemBuilder,
+    name: Word<'_>,
+    tokens: &mut Tokens<'_>,
+) -> Result<u32, TextFault>
+    ensures { GivesCount (length builder.now.conns) name.entry.at (is_among name.entry.text.now builder.now.nets) result tokens.new
+        (number_next 0 (most_conns - length builder.now.conns) Kind.Limit tokens.old) }
+{
+    match number(tokens, 0, CONNS - builder.conns(), Kind::Limit) {
+        Ok(count) => Ok(count),
+        Err(fault) => {
+            let there = builder.net_named(name.text).is_some();
+            Err(fault_behind(name, there, fault))
+        }
+    }
+}
+
+/// Adds the next net with its connections. Its name is looked up where it is added, or where the number does not read.
+#[tactic(auto, unfolding(crate::specs::Statements::net_next, crate::specs::Statements::new_name_next))]
 fn next_net(builder: &mut ProblemBuilder, tokens: &mut Tokens<'_>) -> Result<(), TextFault>
     requires { length builder.old.nets < 2 ^ 18 }
     ensures { Grows with_net_text result builder.old builder.new tokens.new
         (net_next builder.old builder.old.nets (length builder.old.conns) tokens.old) }
 {
     tokens.keyword(b"Net")?;
-    let name = new_net_name(builder, tokens)?;
-    let count = number(tokens, 0, CONNS - builder.conns(), Kind::Limit)?;
-    match builder.add_net(name.text) {
-        Ok(net) => conns(builder, net, count, tokens),
-        Err(BuildFault::Memory) => Err(TextFault::Memory),
-        Err(_) => unreachable!(),
-    }
+    let name = tokens.name()?;
+    let count = count_of(builder, name, tokens)?;
+    let net = add_net(builder, name)?;
+    conns(builder, net, count, tokens)
 }
 
 /// Adds so many nets to a problem that has none.

@@ -1,6 +1,6 @@
 //! The steps that several statements share.
 
-ghost use Rattle.std.specs.Prelude.{◌≡◌, ◌≤◌, ◌^◌, true, false, Ok, Err, IfOk};
+ghost use Rattle.std.specs.Prelude.{◌≡◌, ◌≤◌, ◌^◌, true, false, Ok, Err, IfOk, if◌then◌else◌};
 ghost use Rattle.fp_text.specs.Reading.{Gives, number_next};
 ghost use Rattle.fp_contest_in.specs.Statements.{sizes_next};
 
@@ -45,5 +45,16 @@ pub fn unless_there(name: Word<'_>, there: bool) -> Result<Word<'_>, TextFault>
         Err(wrong(name.at, Kind::Twice))
     } else {
         Ok(name)
+    }
+}
+
+/// The fault that is met behind a name, unless the name is there: then `Twice` at its token.
+pub fn fault_behind(name: Word<'_>, there: bool, behind: TextFault) -> TextFault
+    ensures { result ≡ if there then TextFault.Wrong name.entry.at Kind.Twice else behind }
+{
+    if there {
+        wrong(name.at, Kind::Twice)
+    } else {
+        behind
     }
 }
