@@ -81,9 +81,8 @@ const CONTEST_PLACED: &str =
     "TopDiePlacement 4\nInst C1 0 0\nInst C2 7 0\nInst C3 16 0\nInst C4 0 10\nBottomDiePlacement 2\nInst C5 0 0\nInst C6 12 0\n\
 NumTerminals 2\nTerminal N1 7 7\nTerminal N3 17 7\n";
 
-/// A text with its lines changed; one that is changed to nothing is left out.
-fn with_changes(alloc: Global, text: &str, changes: &[(&str, &str)]) -> Result<String, AllocError> {
-    let mut input = String::new(alloc);
+/// Adds a text with its lines changed; one that is changed to nothing is left out.
+fn push_lines(input: &mut String, text: &str, changes: &[(&str, &str)]) -> Result<(), AllocError> {
     for old in text.lines() {
         let change = changes.iter().find(|change| change.0 == old);
         let line = change.map_or(old, |change| change.1);
@@ -92,16 +91,51 @@ fn with_changes(alloc: Global, text: &str, changes: &[(&str, &str)]) -> Result<S
             input.push_str("\n")?;
         }
     }
-    Ok(input)
+    Ok(())
 }
 
-/// The words of a command line.
-fn words_of(alloc: Global, line: &str) -> Result<Vec<String>, AllocError> {
-    let mut words = Vec::new(alloc);
+/// A text with its lines changed.
+fn with_changes(alloc: Global, text: &str, changes: &[(&str, &str)]) -> Result<String, AllocError> {
+    let mut input = String::new(alloc);
+    let pushed = push_lines(&mut input, text, changes);
+    match pushed {
+        Ok(()) => Ok(input),
+        Err(fault) => {
+            drop(input);
+            Err(fault)
+        }
+    }
+}
+
+/// Adds the words of a command line.
+fn push_words(alloc: Global, words: &mut Vec<String>, line: &str) -> Result<(), AllocError> {
     for word in line.split_whitespace() {
         words.push(String::from_str(alloc, word)?)?;
     }
-    Ok(words)
+    Ok(())
+}
+
+/// A run: its command line, what it finds in the files `a` and `o`, and the numbers of the calls that fail.
+#[derive(Clone, Copy)]
+struct Trial<'t> {
+    line: &'t str,
+    input: Option<&'t str>,
+    output: Option<&'t str>,
+    folder_fails: &'t [u64],
+    sink_fails: &'t [u64],
+}
+
+impl<'t> Trial<'t> {
+    /// A run over these files in which no call fails.
+    fn new(line: &'t str, input: Option<&'t str>, output: Option<&'t str>) -> Trial<'t> {
+        Trial {
+            line,
+            input,
+            output,
+            folder_fails: &[],
+            sink_fails: &[],
+        }
+    }
 }
 
 /// How a run ended: the status, and the sink and the folder afterwards.
@@ -112,47 +146,97 @@ struct Ended {
     folder: MemFolder,
 }
 
-/// A run of these words over a folder whose `a` holds the input and `o` the output, if any, and whose calls of these numbers fail.
-fn run_words(
-    alloc: Global,
-    words: &str,
-    input: Option<&str>,
-    output: Option<&str>,
-    folder_fails: &[u64],
-    sink_fails: &[u64],
-) -> Result<Ended, Fail> {
-    let mut folder = MemFolder::new(alloc, folder_fails, 2, 2048)?;
-    let mut out = MemSink::new(alloc, sink_fails, 64)?;
-    if let Some(bytes) = input {
+/// The folder that a run finds.
+fn folder_of(alloc: Global, trial: &Trial<'_>) -> Result<MemFolder, Fail> {
+    let mut folder = MemFolder::new(alloc, trial.folder_fails, 2, 2048)?;
+    if let Some(bytes) = trial.input {
         let _ = folder.put_file("a", bytes.as_bytes());
     }
-    if let Some(bytes) = output {
+    if let Some(bytes) = trial.output {
         let _ = folder.put_file("o", bytes.as_bytes());
     }
-    let words = words_of(alloc, words)?;
-    let status = run(alloc, words.as_slice(), &mut folder, &mut out);
-    Ok(Ended {
-        status,
-        out,
-        folder,
-    })
+    Ok(folder)
 }
 
-/// A seed of a text with its lines changed: it is done, with this report, and the output file is this text.
+/// A run of these words.
+fn run_words(alloc: Global, words: &[String], trial: &Trial<'_>) -> Result<Ended, Fail> {
+    let mut out = MemSink::new(alloc, trial.sink_fails, 64)?;
+    match folder_of(alloc, trial) {
+        Ok(mut folder) => {
+            let status = run(alloc, words, &mut folder, &mut out);
+            Ok(Ended {
+                status,
+                out,
+                folder,
+            })
+        }
+        Err(fault) => {
+            drop(out);
+            Err(fault)
+        }
+    }
+}
+
+/// A run of a command line.
+fn run_line(alloc: Global, trial: &Trial<'_>) -> Result<Ended, Fail> {
+    let mut words = Vec::new(alloc);
+    let ended = match push_words(alloc, &mut words, trial.line) {
+        Ok(()) => run_words(alloc, words.as_slice(), trial),
+        Err(fault) => Err(Fail::new(fault)),
+    };
+    drop(words);
+    ended
+}
+
+/// A run over these files ends with this status and report, and leaves this in the file `o`, or no such file.
+fn expect_run(
+    rt: &impl Abort,
+    alloc: Global,
+    trial: &Trial<'_>,
+    status: u8,
+    report: &str,
+    left: Option<&str>,
+) -> Result<(), Fail> {
+    let end = run_line(alloc, trial)?;
+    assert!(rt; end.status == status, "{report}");
+    assert!(rt; end.out.written() == report.as_bytes(), "{report}");
+    assert!(rt; end.folder.file("o") == left.map(str::as_bytes), "{report}");
+    drop(end);
+    Ok(())
+}
+
+/// A seed of a text with its lines changed ends with this status and report, and leaves this output, or none.
 fn expect_seed(
     rt: &impl Abort,
     alloc: Global,
     text: &str,
-    changes: &Changes,
+    changes: &[(&str, &str)],
+    status: u8,
     report: &str,
-    output: &str,
+    left: Option<&str>,
 ) -> Result<(), Fail> {
-    let input = with_changes(alloc, text, changes.as_slice())?;
-    let end = run_words(alloc, "seed a o", Some(input.as_str()), None, &[], &[])?;
-    assert_eq!(rt; end.status, 0, "{report}");
-    assert_eq!(rt; end.out.written(), report.as_bytes(), "{report}");
-    assert!(rt; end.folder.file("o") == Some(output.as_bytes()), "{report}");
-    Ok(())
+    let input = with_changes(alloc, text, changes)?;
+    let trial = Trial::new("seed a o", Some(input.as_str()), None);
+    let done = expect_run(rt, alloc, &trial, status, report, left);
+    drop(input);
+    done
+}
+
+/// A score of a text with its lines changed ends with this status and report, and leaves the output as it is.
+fn expect_score_of(
+    rt: &impl Abort,
+    alloc: Global,
+    input: &str,
+    output: &str,
+    changes: &[(&str, &str)],
+    status: u8,
+    report: &str,
+) -> Result<(), Fail> {
+    let output = with_changes(alloc, output, changes)?;
+    let trial = Trial::new("score a o", Some(input), Some(output.as_str()));
+    let done = expect_run(rt, alloc, &trial, status, report, Some(output.as_str()));
+    drop(output);
+    done
 }
 
 #[test]
@@ -171,7 +255,7 @@ fn seeds_of_the_small_input_are_written_with_their_scores(rt: HostRuntime) -> Re
         ),
         (THREE_NETS, "seed 2 first top cut 1 slots 36\n", PLACED),
     ] {
-        expect_seed(&rt, rt.alloc(), SMALL, &changes, report, output)?;
+        expect_seed(&rt, rt.alloc(), SMALL, &changes, 0, report, Some(output))?;
     }
     Ok(())
 }
@@ -186,7 +270,7 @@ fn seeds_of_other_inputs_are_written_with_their_scores(rt: HostRuntime) -> Resul
         ),
         (CONTEST, "seed 83 first top cut 2 slots 4\n", CONTEST_PLACED),
     ] {
-        expect_seed(&rt, rt.alloc(), text, &UNCHANGED, report, output)?;
+        expect_seed(&rt, rt.alloc(), text, &[], 0, report, Some(output))?;
     }
     Ok(())
 }
@@ -229,8 +313,8 @@ fn seeds_with_a_cost_or_a_blockage_are_written_with_their_scores(
             beside,
         ),
     ] {
-        let changes = [(section, text), NONE, NONE, NONE, NONE];
-        expect_seed(&rt, rt.alloc(), SMALL, &changes, report, output)?;
+        let changes = [(section, text)];
+        expect_seed(&rt, rt.alloc(), SMALL, &changes, 0, report, Some(output))?;
     }
     Ok(())
 }
@@ -266,28 +350,8 @@ fn tells_why_no_seed_stands(rt: HostRuntime) -> Result<(), Fail> {
         (SMALL, blocked, "unfit top cell C2 bottom cell C2\n"),
         (SMALL, two_nets, "unfit top slots 2 1 bottom slots 2 1\n"),
     ] {
-        let input = with_changes(rt.alloc(), text, changes.as_slice())?;
-        let end = run_words(rt.alloc(), "seed a o", Some(input.as_str()), None, &[], &[])?;
-        assert_eq!(rt; end.status, 4, "{report}");
-        assert_eq!(rt; end.out.written(), report.as_bytes(), "{report}");
-        assert!(rt; end.folder.file("o").is_none(), "{report}");
+        expect_seed(&rt, rt.alloc(), text, &changes, 4, report, None)?;
     }
-    Ok(())
-}
-
-/// A seed of the small input with a line changed: it is refused with this report, and no file is made.
-fn expect_refusal(
-    rt: &impl Abort,
-    alloc: Global,
-    line: &str,
-    text: &str,
-    report: &str,
-) -> Result<(), Fail> {
-    let input = with_changes(alloc, SMALL, &[(line, text)])?;
-    let end = run_words(alloc, "seed a o", Some(input.as_str()), None, &[], &[])?;
-    assert_eq!(rt; end.status, 3, "{text}");
-    assert_eq!(rt; end.out.written(), report.as_bytes(), "{text}");
-    assert!(rt; end.folder.file("o").is_none(), "{text}");
     Ok(())
 }
 
@@ -315,7 +379,7 @@ fn reports_the_first_fault_of_the_dies(rt: HostRuntime) -> Result<(), Fail> {
             "input a 153 rows\n",
         ),
     ] {
-        expect_refusal(&rt, rt.alloc(), line, text, report)?;
+        expect_seed(&rt, rt.alloc(), SMALL, &[(line, text)], 3, report, None)?;
     }
     Ok(())
 }
@@ -353,7 +417,7 @@ fn reports_the_first_fault_of_costs_and_blockages(rt: HostRuntime) -> Result<(),
             "input a 300 range\n",
         ),
     ] {
-        expect_refusal(&rt, rt.alloc(), SPACING, text, report)?;
+        expect_seed(&rt, rt.alloc(), SMALL, &[(SPACING, text)], 3, report, None)?;
     }
     Ok(())
 }
@@ -373,10 +437,8 @@ fn rows_are_told_behind_the_ninth_section(rt: HostRuntime) -> Result<(), Fail> {
             "input a 263 number\n",
         ),
     ] {
-        let input = with_changes(rt.alloc(), SMALL, &[outside, (line, text)])?;
-        let end = run_words(rt.alloc(), "seed a o", Some(input.as_str()), None, &[], &[])?;
-        assert_eq!(rt; end.status, 3, "{report}");
-        assert_eq!(rt; end.out.written(), report.as_bytes(), "{report}");
+        let changes = [outside, (line, text)];
+        expect_seed(&rt, rt.alloc(), SMALL, &changes, 3, report, None)?;
     }
     Ok(())
 }
@@ -402,21 +464,33 @@ fn reports_the_first_fault_of_words_counts_and_names(rt: HostRuntime) -> Result<
         ("Pin C1/P1", "Pin C1P1", "input a 330 name\n"),
         ("Pin C1/P1", "Pin C9/P1", "input a 330 unknown\n"),
     ] {
-        expect_refusal(&rt, rt.alloc(), line, text, report)?;
+        expect_seed(&rt, rt.alloc(), SMALL, &[(line, text)], 3, report, None)?;
     }
     Ok(())
 }
 
-/// The contest's case with a line changed, and its output with two: how scoring it ends.
-fn score_changed(
+/// A score of the contest's case with a line changed, and its output with two.
+fn expect_contest_score(
+    rt: &impl Abort,
     alloc: Global,
     input_change: (&str, &str),
     output_changes: &[(&str, &str)],
-) -> Result<Ended, Fail> {
+    status: u8,
+    report: &str,
+) -> Result<(), Fail> {
     let input = with_changes(alloc, CONTEST, &[input_change])?;
-    let output = with_changes(alloc, CONTEST_PLACED, output_changes)?;
-    let (input, output) = (Some(input.as_str()), Some(output.as_str()));
-    run_words(alloc, "score a o", input, output, &[], &[])
+    let text = input.as_str();
+    let done = expect_score_of(
+        rt,
+        alloc,
+        text,
+        CONTEST_PLACED,
+        output_changes,
+        status,
+        report,
+    );
+    drop(input);
+    done
 }
 
 #[test]
@@ -438,9 +512,7 @@ fn percents_hold_up_to_the_last_one_or_are_broken(rt: HostRuntime) -> Result<(),
             "broken 6 bottom\n",
         ),
     ] {
-        let end = score_changed(rt.alloc(), (limit, text), &[])?;
-        assert_eq!(rt; end.status, status, "{report}");
-        assert_eq!(rt; end.out.written(), report.as_bytes(), "{report}");
+        expect_contest_score(&rt, rt.alloc(), (limit, text), &[], status, report)?;
     }
     Ok(())
 }
@@ -460,9 +532,7 @@ fn tells_the_rule_that_a_cell_breaks(rt: HostRuntime) -> Result<(), Fail> {
         (higher, NONE, NONE, "broken 3 C6\n"),
         (NONE, ("Inst C2 7 0", "Inst C2 6 0"), NONE, "broken 4 C1\n"),
     ] {
-        let end = score_changed(rt.alloc(), input, &[first, second])?;
-        assert_eq!(rt; end.status, 5, "{report}");
-        assert_eq!(rt; end.out.written(), report.as_bytes(), "{report}");
+        expect_contest_score(&rt, rt.alloc(), input, &[first, second], 5, report)?;
     }
     Ok(())
 }
@@ -487,45 +557,35 @@ fn tells_the_rule_that_a_terminal_breaks(rt: HostRuntime) -> Result<(), Fail> {
             "broken 9 N1\n",
         ),
     ] {
-        let end = score_changed(rt.alloc(), NONE, &[first, second])?;
-        assert_eq!(rt; end.status, 5, "{report}");
-        assert_eq!(rt; end.out.written(), report.as_bytes(), "{report}");
+        expect_contest_score(&rt, rt.alloc(), NONE, &[first, second], 5, report)?;
     }
-    Ok(())
-}
-
-/// The small input's output with a line changed: scoring it ends with this status and report, and leaves the file as it is.
-fn expect_score(
-    rt: &impl Abort,
-    alloc: Global,
-    line: &str,
-    text: &str,
-    status: u8,
-    report: &str,
-) -> Result<(), Fail> {
-    let changed = with_changes(alloc, PLACED, &[(line, text)])?;
-    let output = Some(changed.as_str());
-    let end = run_words(alloc, "score a o", Some(SMALL), output, &[], &[])?;
-    assert_eq!(rt; end.status, status, "{report}");
-    assert_eq!(rt; end.out.written(), report.as_bytes(), "{report}");
-    assert!(rt;
-        end.folder.file("o") == Some(changed.as_bytes()),
-        "{report}"
-    );
     Ok(())
 }
 
 #[test]
 fn scores_an_output_of_the_small_input(rt: HostRuntime) -> Result<(), Fail> {
-    expect_score(&rt, rt.alloc(), "", "", 0, "score 2\n")?;
-    expect_score(
-        &rt,
-        rt.alloc(),
-        "Inst C2 0 0",
-        "Inst C1 0 0",
-        5,
-        "broken 1 C1\n",
-    )
+    for (line, text, status, report) in [
+        ("", "", 0, "score 2\n"),
+        ("Inst C2 0 0", "Inst C1 0 0", 5, "broken 1 C1\n"),
+    ] {
+        let changes = [(line, text)];
+        expect_score_of(&rt, rt.alloc(), SMALL, PLACED, &changes, status, report)?;
+    }
+    Ok(())
+}
+
+/// A score of the small input with a section changed, and its output.
+fn expect_score_with(
+    rt: &impl Abort,
+    alloc: Global,
+    text: &str,
+    status: u8,
+    report: &str,
+) -> Result<(), Fail> {
+    let input = with_changes(alloc, SMALL, &[(SPACING, text)])?;
+    let done = expect_score_of(rt, alloc, input.as_str(), PLACED, &[], status, report);
+    drop(input);
+    done
 }
 
 #[test]
@@ -543,17 +603,7 @@ fn scores_see_costs_and_blockages(rt: HostRuntime) -> Result<(), Fail> {
             "broken 2 C2\n",
         ),
     ] {
-        let input = with_changes(rt.alloc(), SMALL, &[(SPACING, text)])?;
-        let end = run_words(
-            rt.alloc(),
-            "score a o",
-            Some(input.as_str()),
-            Some(PLACED),
-            &[],
-            &[],
-        )?;
-        assert_eq!(rt; end.status, status, "{report}");
-        assert_eq!(rt; end.out.written(), report.as_bytes(), "{report}");
+        expect_score_with(&rt, rt.alloc(), text, status, report)?;
     }
     Ok(())
 }
@@ -581,22 +631,39 @@ fn reports_the_first_fault_of_an_output_file(rt: HostRuntime) -> Result<(), Fail
             "input o 94 trailing\n",
         ),
     ] {
-        expect_score(&rt, rt.alloc(), line, text, 3, report)?;
+        let changes = [(line, text)];
+        expect_score_of(&rt, rt.alloc(), SMALL, PLACED, &changes, 3, report)?;
     }
     Ok(())
 }
 
 #[test]
-fn a_missing_output_file_is_told(rt: HostRuntime) -> Result<(), Fail> {
-    let end = run_words(rt.alloc(), "score a o", Some(SMALL), None, &[], &[])?;
-    assert_eq!(rt; end.status, 3);
-    assert_eq!(rt; end.out.written(), b"input o 0 missing\n".as_slice());
+fn a_missing_or_empty_file_is_told_and_none_is_made(rt: HostRuntime) -> Result<(), Fail> {
+    for (line, input, report) in [
+        ("seed a o", None, "input a 0 missing\n"),
+        ("seed a o", Some(""), "input a 0 ended\n"),
+        ("score a o", Some(SMALL), "input o 0 missing\n"),
+    ] {
+        let trial = Trial::new(line, input, None);
+        expect_run(&rt, rt.alloc(), &trial, 3, report, None)?;
+    }
+    Ok(())
+}
+
+/// A command line is no request, and the folder is not called.
+fn expect_no_request(rt: &impl Abort, alloc: Global, line: &str) -> Result<(), Fail> {
+    let trial = Trial::new(line, None, None);
+    let end = run_line(alloc, &trial)?;
+    assert!(rt; end.status == 2, "{line}");
+    assert!(rt; end.out.written() == b"words\n".as_slice(), "{line}");
+    assert!(rt; end.folder.calls() == 0, "{line}");
+    drop(end);
     Ok(())
 }
 
 #[test]
 fn other_words_are_no_request(rt: HostRuntime) -> Result<(), Fail> {
-    for words in [
+    for line in [
         "",
         "seed a",
         "seed a a",
@@ -604,24 +671,7 @@ fn other_words_are_no_request(rt: HostRuntime) -> Result<(), Fail> {
         "place a o c",
         "seed a o c",
     ] {
-        let end = run_words(rt.alloc(), words, None, None, &[], &[])?;
-        assert_eq!(rt; end.status, 2, "{words}");
-        assert_eq!(rt; end.out.written(), b"words\n".as_slice(), "{words}");
-        assert_eq!(rt; end.folder.calls(), 0, "{words}");
-    }
-    Ok(())
-}
-
-#[test]
-fn a_missing_or_empty_file_is_told_and_none_is_made(rt: HostRuntime) -> Result<(), Fail> {
-    for (input, report) in [
-        (None, "input a 0 missing\n"),
-        (Some(""), "input a 0 ended\n"),
-    ] {
-        let end = run_words(rt.alloc(), "seed a o", input, None, &[], &[])?;
-        assert_eq!(rt; end.status, 3, "{report}");
-        assert_eq!(rt; end.out.written(), report.as_bytes(), "{report}");
-        assert!(rt; end.folder.file("o").is_none(), "{report}");
+        expect_no_request(&rt, rt.alloc(), line)?;
     }
     Ok(())
 }
@@ -629,21 +679,33 @@ fn a_missing_or_empty_file_is_told_and_none_is_made(rt: HostRuntime) -> Result<(
 #[test]
 fn blanks_and_the_order_of_sections_change_nothing(rt: HostRuntime) -> Result<(), Fail> {
     let report = "seed 2 first top cut 1 slots 36\n";
-    expect_seed(&rt, rt.alloc(), LOOSE, &UNCHANGED, report, PLACED)
+    expect_seed(&rt, rt.alloc(), LOOSE, &[], 0, report, Some(PLACED))
 }
 
 #[test]
 fn a_folder_that_fails_at_once_prints_nothing(rt: HostRuntime) -> Result<(), Fail> {
-    let end = run_words(rt.alloc(), "seed a o", Some(SMALL), None, &[0], &[])?;
-    assert_eq!(rt; end.status, 6);
-    assert_eq!(rt; end.out.calls(), 0);
+    let trial = Trial {
+        line: "seed a o",
+        input: Some(SMALL),
+        output: None,
+        folder_fails: &[0],
+        sink_fails: &[],
+    };
+    let end = run_line(rt.alloc(), &trial)?;
+    assert!(&rt; end.status == 6);
+    assert!(&rt; end.out.calls() == 0);
+    drop(end);
     Ok(())
 }
 
 #[test]
 fn a_sink_that_fails_leaves_the_output_whole(rt: HostRuntime) -> Result<(), Fail> {
-    let end = run_words(rt.alloc(), "seed a o", Some(SMALL), None, &[], &[0])?;
-    assert_eq!(rt; end.status, 6);
-    assert!(rt; end.folder.file("o") == Some(PLACED.as_bytes()));
-    Ok(())
+    let trial = Trial {
+        line: "seed a o",
+        input: Some(SMALL),
+        output: None,
+        folder_fails: &[],
+        sink_fails: &[0],
+    };
+    expect_run(&rt, rt.alloc(), &trial, 6, "", Some(PLACED))
 }
