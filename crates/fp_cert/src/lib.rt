@@ -13,3 +13,6 @@ pub use run::Run;
 pub use shown::{CellShown, CutShown, Ending, RowShown};
 pub use trial::Trial;
 pub use trial_lines::write_lines;
+
+#[cfg(test)]
+mod tests;
