@@ -1,3 +1,5 @@
 pub mod Shown
 pub mod Endings
 pub mod CertText
+pub mod Standing
+pub mod Trials
