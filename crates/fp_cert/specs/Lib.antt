@@ -2,4 +2,5 @@ pub mod Shown
 pub mod Endings
 pub mod CertText
 pub mod Standing
+pub mod StandingLaws
 pub mod Trials

@@ -1,6 +1,6 @@
 -- The trials of a run: the first is the seed with its best terminals; each next one settles the dies of the one before it, its base, finds
 -- the targets, chooses rows, and places each row and the terminals best; the run goes on while a trial is better than its base.
-use Rattle.std.specs.Prelude.{◌≡◌, ◌≢◌, ℕ, zero, suc, ◌+◌, ◌<◌, ◌≤◌, max, Bool, true, false, nat_lt, nat_eq, if◌then◌else◌, List, [], ◌∷◌, length, map, filter, get_or, slice_get, Option, Some, None, Result, Ok, Err, ℤ, pos, ◌+ℤ◌}
+use Rattle.std.specs.Prelude.{◌≡◌, ◌≢◌, ℕ, ◌+◌, ◌<◌, ◌≤◌, max, Bool, true, false, nat_lt, nat_eq, if◌then◌else◌, List, [], ◌∷◌, length, map, filter, get_or, slice_get, Some, Result, Ok, Err, ℤ, pos, ◌+ℤ◌}
 use Rattle.std.specs.List.{range_with_len, IsDistinct}
 use Rattle.fp_base.specs.declared.ids.Die.{Die}
 use Rattle.fp_base.specs.declared.ids.Die.TheVariants.{Top, Bottom}
@@ -12,8 +12,7 @@ use Rattle.fp_netlist.specs.Netlist.{Netlist, conns_of_cell}
 use Rattle.fp_netlist.specs.Points.{width}
 use Rattle.fp_place.specs.declared.placement.Spot.{Spot}
 use Rattle.fp_place.specs.Cut.{is_cut}
-use Rattle.fp_place.specs.Places.{place_at}
-use Rattle.fp_place.specs.Placed.{Placed, spot_at, StandOnce, IsInOrder}
+use Rattle.fp_place.specs.Placed.{spot_at, StandOnce, IsInOrder}
 use Rattle.fp_place.specs.Settled.{settled}
 use Rattle.fp_rows.specs.declared.RowCell.{RowCell}
 use Rattle.fp_rows.specs.Squares.{IsBest}
