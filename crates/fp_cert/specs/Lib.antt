@@ -4,3 +4,4 @@ pub mod CertText
 pub mod Standing
 pub mod StandingLaws
 pub mod Trials
+pub mod CutLinesLaws

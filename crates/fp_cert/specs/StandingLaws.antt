@@ -1,20 +1,25 @@
 -- Laws of where a trial shows its cells: each line is found by its cell, so a trial that lists a placement shows it.
-use Rattle.std.specs.Prelude.{◌≡◌, ℕ, zero, suc, ◌+◌, Bool, true, false, cond, nat_eq, List, [], ◌∷◌, find, slice_get, get_or, Option, Some, None, option_map}
+use Rattle.std.specs.Prelude.{◌≡◌, ℕ, zero, suc, ◌+◌, ◌<◌, Bool, true, false, cond, nat_eq, List, [], ◌∷◌, length, find, slice_get, get_or, Option, Some, None, option_map}
 use Rattle.std.specs.Option.{option_or}
 use Rattle.std.proofs.Common.{refl, sym, ap, subst, ◌∙◌, arith}
 use Rattle.std.proofs.lemmas.Bool.Decides.{nat_tests}
 use Rattle.std.proofs.lemmas.List.Folds.{find-append}
-use Rattle.std.proofs.lemmas.Option.{same_Some, slice_get-map}
+use Rattle.std.proofs.lemmas.List.FromFn.{fill_by_all}
+use Rattle.std.proofs.lemmas.Option.{same_Some, slice_get-map, get_or_from_slice_get}
 use Rattle.fp_base.specs.declared.ids.CellId.{CellId}
 use Rattle.fp_base.specs.declared.ids.Die.{Die}
 use Rattle.fp_base.specs.declared.ids.Die.TheVariants.{Top, Bottom}
 use Rattle.fp_base.specs.declared.ids.Point.{Point}
+use Rattle.fp_tech.specs.declared.dies.Segment.{Segment}
+use Rattle.fp_tech.specs.Plan.{segments}
+use Rattle.fp_netlist.specs.Netlist.{Netlist}
 use Rattle.fp_place.specs.declared.placement.Spot.{Spot}
-use Rattle.fp_place.specs.Placed.{LaneList, spot_at, lanes_on, entry_at, StandOnce}
+use Rattle.fp_place.specs.Placed.{LaneList, Placed, no_spot, spot_at, lanes_on, entry_at, Agree, DoAgree, StandOnce, IsSpotOf, IsPlacementOf}
 use Rattle.fp_place.specs.PlacedLaws.{entry_of, entry_on}
+use Rattle.fp_score.specs.FirstFit.{no_segment, segment_at}
 use Rattle.fp_cert.specs.declared.shown.CellShown.{CellShown}
 use Rattle.fp_cert.specs.Shown.{ShownRow, ShownTrial, rows_of}
-use Rattle.fp_cert.specs.Standing.{Stand, stands_in, stands_on, stands, is_stand_of, stand_of, target_by, lane_shown, lanes_shown}
+use Rattle.fp_cert.specs.Standing.{Stand, stands_in, stands_on, stands, is_stand_of, stand_of, spot_by, target_by, spots_shown, targets_shown, lane_shown, lanes_shown}
 
 -- ---- lines that pass a test
 
@@ -250,6 +255,66 @@ stand_there trial cells once die segment rank row shown there at = by (stand_of 
 -- ---- what a trial shows of a placement whose lanes it lists
 
 -- each line shows its cell as it stands in lists by cell
-pub ShowsEach : ShownTrial → List Spot → List Point → Type 0
+abbrev pub ShowsEach : ShownTrial → List Spot → List Point → Type 0
 ShowsEach trial spots targets = (die : Die) (segment rank : ℕ) (row : ShownRow) (shown : CellShown) → slice_get (rows_of trial die) segment ≡ Some row → slice_get row.cells rank ≡ Some shown
     → (shown.x ≡ (spot_at spots shown.cell.0).x) × (shown.target ≡ get_or targets shown.cell.0 (target_by None))
+
+agree_on : (p : Netlist) (trial : ShownTrial) (placed : Placed) → DoAgree placed → lanes_shown trial Top ≡ placed.top → lanes_shown trial Bottom ≡ placed.bottom
+    → Agree placed.spots (lanes_shown trial Top) (lanes_shown trial Bottom)
+agree_on p trial placed agree top bottom =
+    subst (λ (lanes : LaneList). Agree placed.spots (lanes_shown trial Top) lanes) (sym bottom) (subst (λ (lanes : LaneList). Agree placed.spots lanes placed.bottom) (sym top) agree)
+
+once_on : (p : Netlist) (trial : ShownTrial) (placed : Placed) → StandOnce (length p.cells) placed.top placed.bottom → lanes_shown trial Top ≡ placed.top
+    → lanes_shown trial Bottom ≡ placed.bottom → StandOnce (length p.cells) (lanes_shown trial Top) (lanes_shown trial Bottom)
+once_on p trial placed once top bottom =
+    subst (λ (lanes : LaneList). StandOnce (length p.cells) (lanes_shown trial Top) lanes) (sym bottom) (subst (λ (lanes : LaneList). StandOnce (length p.cells) lanes placed.bottom) (sym top) once)
+
+-- a cell's line, where the trial lists the lanes of a placement
+record IsLineFor (trial : ShownTrial) (spots : List Spot) (targets : List Point) (cell : ℕ) : Type 0 where
+  shown : CellShown
+  counts : stand_of trial cell
+      ≡ Some (record { die = (spot_at spots cell).die; segment = (spot_at spots cell).segment; rank = (spot_at spots cell).rank; shown = shown })
+  x_is : shown.x ≡ (spot_at spots cell).x
+  target_is : shown.target ≡ get_or targets cell (target_by None)
+
+line_for : (trial : ShownTrial) (cells : ℕ) (spots : List Spot) (targets : List Point) → Agree spots (lanes_shown trial Top) (lanes_shown trial Bottom)
+    → StandOnce cells (lanes_shown trial Top) (lanes_shown trial Bottom) → ShowsEach trial spots targets → (cell : ℕ) → cell < length spots → IsLineFor trial spots targets cell
+line_for trial cells spots targets agree once shows cell below =
+    let spot = spot_at spots cell in
+    let line = line_of trial spot.die spot.segment spot.rank (record { 0 = cell }) (agree.spot_named cell below) in
+    let number : line.shown.cell.0 ≡ cell = ap (λ (c : CellId). c.0) line.cell_is in
+    let each = shows spot.die spot.segment spot.rank line.row line.shown line.there line.at in
+    record {
+      shown = line.shown;
+      counts = ap (stand_of trial) (sym number) ∙ stand_there trial cells once spot.die spot.segment spot.rank line.row line.shown line.there line.at;
+      x_is = each.0 ∙ ap (λ k. (spot_at spots k).x) number;
+      target_is = each.1 ∙ ap (λ k. get_or targets k (target_by None)) number;
+    }
+
+-- a spot is what its line says, as it stands on its segment's row
+spot_said : (p : Netlist) (spot : Spot) (shown : CellShown) → IsSpotOf p spot → shown.x ≡ spot.x
+    → spot_by p.plan (Some (record { die = spot.die; segment = spot.segment; rank = spot.rank; shown = shown })) ≡ spot
+spot_said p spot shown is x_is =
+    let y_is : (segment_at p.plan spot.die spot.segment).y ≡ spot.y =
+      ap (λ (s : Segment). s.y) (get_or_from_slice_get (segments p.plan spot.die) spot.segment is.segment no_segment is.there) ∙ sym is.row in
+    λ i. record { die = spot.die; segment = spot.segment; rank = spot.rank; x = x_is i; y = y_is i }
+
+-- A trial that lists the lanes of a placement, each cell at its spot's x, shows the placement's spots,
+pub spots_are : (p : Netlist) (trial : ShownTrial) (placed : Placed) (targets : List Point) → IsPlacementOf p placed → DoAgree placed
+    → StandOnce (length p.cells) placed.top placed.bottom → lanes_shown trial Top ≡ placed.top → lanes_shown trial Bottom ≡ placed.bottom
+    → ShowsEach trial placed.spots targets → spots_shown p trial ≡ placed.spots
+unfolding spots_shown
+spots_are p trial placed targets is agree once top bottom shows =
+    sym (fill_by_all (λ cell. spot_by p.plan (stand_of trial cell)) placed.spots (length p.cells) no_spot is.cells (λ cell below.
+    let line = line_for trial (length p.cells) placed.spots targets (agree_on p trial placed agree top bottom) (once_on p trial placed once top bottom) shows cell (omega (arith, below, is.cells)) in
+    sym (ap (spot_by p.plan) line.counts ∙ spot_said p (spot_at placed.spots cell) line.shown (is.spots cell no_spot (omega (arith, below, is.cells))) line.x_is)))
+
+-- and the targets that its lines have.
+pub targets_are : (p : Netlist) (trial : ShownTrial) (placed : Placed) (targets : List Point) → IsPlacementOf p placed → DoAgree placed
+    → StandOnce (length p.cells) placed.top placed.bottom → lanes_shown trial Top ≡ placed.top → lanes_shown trial Bottom ≡ placed.bottom
+    → length targets ≡ length p.cells → ShowsEach trial placed.spots targets → targets_shown p trial ≡ targets
+unfolding targets_shown
+targets_are p trial placed targets is agree once top bottom many shows =
+    sym (fill_by_all (λ cell. target_by (stand_of trial cell)) targets (length p.cells) (target_by None) many (λ cell below.
+    let line = line_for trial (length p.cells) placed.spots targets (agree_on p trial placed agree top bottom) (once_on p trial placed once top bottom) shows cell (omega (arith, below, is.cells)) in
+    sym (ap target_by line.counts ∙ line.target_is)))
