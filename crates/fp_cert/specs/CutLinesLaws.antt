@@ -3,13 +3,14 @@ use Rattle.std.specs.Prelude.{◌≡◌, ℕ, zero, suc, ◌+◌, ◌<◌, ◌�
 use Rattle.std.specs.List.{range_with_len}
 use Rattle.std.proofs.Common.{refl, sym, ap, subst, ◌∙◌, arith}
 use Rattle.std.proofs.lemmas.Bool.Decides.{nat_tests}
+use Rattle.std.proofs.lemmas.List.{ext_get_or}
 use Rattle.std.proofs.lemmas.List.FromFn.{length-map-range_with_len, get_or-map-range_with_len}
 use Rattle.fp_base.specs.declared.ids.Die.{Die}
 use Rattle.fp_base.specs.declared.ids.Point.{Point}
 use Rattle.fp_tech.specs.Slots.{Slots, centre_of}
 use Rattle.fp_netlist.specs.Netlist.{Netlist}
-use Rattle.fp_place.specs.Cut.{is_cut, cut_below}
-use Rattle.fp_place.specs.CutLaws.{cut_counted}
+use Rattle.fp_place.specs.Cut.{is_cut, cut_below, cut}
+use Rattle.fp_place.specs.CutLaws.{cut_counted, cut_once}
 use Rattle.fp_score.specs.SlotBest.{chosen_terminals}
 use Rattle.fp_score.specs.SlotBestLaws.{chosen_by_each}
 use Rattle.fp_cert.specs.declared.shown.CutShown.{CutShown}
@@ -85,6 +86,12 @@ uncounted : (p : Netlist) (dies : List Die) (net : ℕ) → is_cut p dies net �
 unfolding cut_below
 uncounted p dies net other = ap (λ b. cut_below p dies net + (if b then 1 else 0)) other ∙ omega arith
 
+next_counted : (p : Netlist) (dies : List Die) (net : ℕ) → is_cut p dies net ≡ true → cut_below p dies (net + 1) ≡ cut_below p dies net + 1
+next_counted p dies net is = ap (cut_below p dies) (let next : net + 1 ≡ suc net = omega arith in next) ∙ cut_counted p dies net is
+
+next_uncounted : (p : Netlist) (dies : List Die) (net : ℕ) → is_cut p dies net ≡ false → cut_below p dies (net + 1) ≡ cut_below p dies net
+next_uncounted p dies net is = ap (cut_below p dies) (let next : net + 1 ≡ suc net = omega arith in next) ∙ uncounted p dies net is
+
 -- the slot of a net's rank, where the net is cut
 abbrev slot_in : Netlist → List Die → List ℕ → ℕ → Option ℕ
 slot_in p dies chosen net = if is_cut p dies net then Some (get_or chosen (cut_below p dies net) 0) else None
@@ -97,9 +104,6 @@ find_cut p dies chosen (suc count) from rank net cuts nets slots starts low high
     by (nat_eq from net) refl (is_cut p dies from) refl nets
     (λ others rank same have starts low. find_cut p dies chosen count (from + 1) rank net others same have starts low (omega (arith, high)))
   where
-    next : from + 1 ≡ suc from
-    next = omega arith
-
     by : (e : Bool) → nat_eq from net ≡ e → (b : Bool) → is_cut p dies from ≡ b
         → map (λ cut. cut.net.0) cuts ≡ cond b (from ∷ cut_from p dies (from + 1) count) (cut_from p dies (from + 1) count)
         → ((others : List CutShown) (rank : ℕ) → map (λ cut. cut.net.0) others ≡ cut_from p dies (from + 1) count → HaveSlots chosen rank others → rank ≡ cut_below p dies (from + 1)
@@ -126,9 +130,9 @@ find_cut p dies chosen (suc count) from rank net cuts nets slots starts low high
           have (suc k) (omega (arith, below)) ∙ ap (λ j. get_or chosen j 0) (omega arith) in
         ap (λ (lines : List CutShown). slot_found (find_line net lines)) s.are
         ∙ ap slot_found (past s.line s.others net (ap (λ k. nat_eq k net) s.net_is ∙ e))
-        ∙ behind s.others (rank + 1) s.nets_are others (ap (λ k. k + 1) starts ∙ sym (cut_counted p dies from is) ∙ ap (cut_below p dies) (sym next)) (above from net e low)
+        ∙ behind s.others (rank + 1) s.nets_are others (ap (λ k. k + 1) starts ∙ sym (next_counted p dies from is)) (above from net e low)
     by false e false is nets behind =
-        behind cuts rank nets slots (starts ∙ sym (uncounted p dies from is) ∙ ap (cut_below p dies) (sym next)) (above from net e low)
+        behind cuts rank nets slots (starts ∙ sym (next_uncounted p dies from is)) (above from net e low)
 
 -- A trial that lists the cut nets of dies in file order has their terminals in the slots of its lines, chosen in this order.
 pub terminals_are : (p : Netlist) (grid : Slots) (trial : ShownTrial) (dies : List Die) (chosen : List ℕ) → map (λ cut. cut.net.0) trial.cuts ≡ cut_nets p dies
@@ -153,3 +157,78 @@ terminals_are p grid trial dies chosen nets slots =
 
     have : HaveSlots chosen 0 trial.cuts
     have k below = ap (λ (list : List ℕ). get_or list k 0) slots ∙ ap (λ j. get_or chosen j 0) (omega arith)
+
+-- ---- the cut nets by their ranks
+
+-- a net is cut, and so many are cut before it
+pub record IsCutNet (p : Netlist) (dies : List Die) (rank net : ℕ) : Type 0 where
+  pub within : net < length p.nets
+  pub is_cut_net : is_cut p dies net ≡ true
+  pub rank_is : cut_below p dies net ≡ rank
+
+-- so many of the nets from one on are cut
+cut_count_from : (p : Netlist) (dies : List Die) (count from : ℕ) → cut_below p dies from + length (cut_from p dies from count) ≡ cut_below p dies (from + count)
+cut_count_from p dies zero from =
+    let same : from ≡ from + 0 = omega arith in
+    let none : cut_below p dies from + 0 ≡ cut_below p dies from = omega arith in
+    none ∙ ap (cut_below p dies) same
+cut_count_from p dies (suc count) from = by (is_cut p dies from) refl (cut_count_from p dies count (from + 1))
+  where
+    end : from + 1 + count ≡ from + suc count
+    end = omega arith
+
+    by : (b : Bool) → is_cut p dies from ≡ b → cut_below p dies (from + 1) + length (cut_from p dies (from + 1) count) ≡ cut_below p dies (from + 1 + count)
+        → cut_below p dies from + length (cond b (from ∷ cut_from p dies (from + 1) count) (cut_from p dies (from + 1) count)) ≡ cut_below p dies (from + suc count)
+    by true is rest = omega (arith, next_counted p dies from is, rest, ap (cut_below p dies) end)
+    by false is rest = omega (arith, next_uncounted p dies from is, rest, ap (cut_below p dies) end)
+
+-- the net of a rank among those from one on
+record IsCutFrom (p : Netlist) (dies : List Die) (from count k net : ℕ) : Type 0 where
+  low : from ≤ net
+  high : net < from + count
+  is_cut_net : is_cut p dies net ≡ true
+  rank_is : cut_below p dies net ≡ cut_below p dies from + k
+
+cut_at_from : (p : Netlist) (dies : List Die) (count from k : ℕ) → k < length (cut_from p dies from count) → IsCutFrom p dies from count k (get_or (cut_from p dies from count) k 0)
+cut_at_from p dies zero from k below = absurd (omega (arith, below))
+cut_at_from p dies (suc count) from k below = by (is_cut p dies from) refl k below (cut_at_from p dies count (from + 1))
+  where
+    by : (b : Bool) → is_cut p dies from ≡ b → (k : ℕ) → k < length (cond b (from ∷ cut_from p dies (from + 1) count) (cut_from p dies (from + 1) count))
+        → ((k : ℕ) → k < length (cut_from p dies (from + 1) count) → IsCutFrom p dies (from + 1) count k (get_or (cut_from p dies (from + 1) count) k 0))
+        → IsCutFrom p dies from (suc count) k (get_or (cond b (from ∷ cut_from p dies (from + 1) count) (cut_from p dies (from + 1) count)) k 0)
+    by true is zero below behind = record { low = omega arith; high = omega arith; is_cut_net = is; rank_is = omega arith }
+    by true is (suc k) below behind =
+        let rest = behind k (omega (arith, below)) in
+        record {
+          low = omega (arith, rest.low);
+          high = omega (arith, rest.high);
+          is_cut_net = rest.is_cut_net;
+          rank_is = omega (arith, rest.rank_is, next_counted p dies from is);
+        }
+    by false is k below behind =
+        let rest = behind k below in
+        record {
+          low = omega (arith, rest.low);
+          high = omega (arith, rest.high);
+          is_cut_net = rest.is_cut_net;
+          rank_is = omega (arith, rest.rank_is, next_uncounted p dies from is);
+        }
+
+pub length-cut_nets : (p : Netlist) (dies : List Die) → length (cut_nets p dies) ≡ cut p dies
+length-cut_nets p dies =
+    let all : cut_below p dies (0 + length p.nets) ≡ cut p dies = ap (cut_below p dies) (omega arith) in
+    omega (arith, cut_count_from p dies (length p.nets) 0, starts p dies, all)
+
+pub cut_net_at : (p : Netlist) (dies : List Die) (rank : ℕ) → rank < cut p dies → IsCutNet p dies rank (get_or (cut_nets p dies) rank 0)
+cut_net_at p dies rank below =
+    let is = cut_at_from p dies (length p.nets) 0 rank (omega (arith, below, length-cut_nets p dies)) in
+    record { within = omega (arith, is.high); is_cut_net = is.is_cut_net; rank_is = omega (arith, is.rank_is, starts p dies) }
+
+-- a list with the cut net of each rank is that of the cut nets
+pub cut_nets_by_rank : (p : Netlist) (dies : List Die) (nets : List ℕ) → length nets ≡ cut p dies → ((rank : ℕ) → rank < length nets → IsCutNet p dies rank (get_or nets rank 0))
+    → nets ≡ cut_nets p dies
+cut_nets_by_rank p dies nets many each =
+    ext_get_or 0 nets (cut_nets p dies) (many ∙ sym (length-cut_nets p dies)) (λ rank below.
+    let mine = each rank below in
+    let its = cut_net_at p dies rank (omega (arith, below, many)) in
+    cut_once p dies (get_or nets rank 0) (get_or (cut_nets p dies) rank 0) mine.is_cut_net its.is_cut_net (mine.rank_is ∙ sym its.rank_is))
