@@ -1,5 +1,5 @@
 -- Laws of a trial's cut lines: where they are the cut nets in file order, their slots are chosen in the order of the cut nets.
-use Rattle.std.specs.Prelude.{◌≡◌, ℕ, zero, suc, ◌+◌, ◌<◌, ◌≤◌, Bool, true, false, cond, nat_eq, if◌then◌else◌, List, [], ◌∷◌, ◌++◌, length, map, find, filter, slice_get, get_or, Option, Some, None, option_map}
+use Rattle.std.specs.Prelude.{◌≡◌, ℕ, zero, suc, ◌+◌, ◌<◌, ◌≤◌, Bool, true, false, cond, nat_eq, if◌then◌else◌, List, [], ◌∷◌, length, map, find, filter, get_or, Option, Some, None, option_map}
 use Rattle.std.specs.List.{range_with_len}
 use Rattle.std.proofs.Common.{refl, sym, ap, subst, ◌∙◌, arith}
 use Rattle.std.proofs.lemmas.Bool.Decides.{nat_tests}
@@ -127,7 +127,7 @@ find_cut p dies chosen (suc count) from rank net cuts nets slots starts low high
         let s = split from (cut_from p dies (from + 1) count) cuts nets in
         let have : HaveSlots chosen rank (s.line ∷ s.others) = subst (HaveSlots chosen rank) s.are slots in
         let others : HaveSlots chosen (rank + 1) s.others = λ k below.
-          have (suc k) (omega (arith, below)) ∙ ap (λ j. get_or chosen j 0) (omega arith) in
+        have (suc k) (omega (arith, below)) ∙ ap (λ j. get_or chosen j 0) (omega arith) in
         ap (λ (lines : List CutShown). slot_found (find_line net lines)) s.are
         ∙ ap slot_found (past s.line s.others net (ap (λ k. nat_eq k net) s.net_is ∙ e))
         ∙ behind s.others (rank + 1) s.nets_are others (ap (λ k. k + 1) starts ∙ sym (next_counted p dies from is)) (above from net e low)

@@ -5,3 +5,4 @@ pub mod Standing
 pub mod StandingLaws
 pub mod Trials
 pub mod CutLinesLaws
+pub mod Certified

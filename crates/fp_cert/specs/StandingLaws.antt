@@ -296,7 +296,7 @@ spot_said : (p : Netlist) (spot : Spot) (shown : CellShown) → IsSpotOf p spot 
     → spot_by p.plan (Some (record { die = spot.die; segment = spot.segment; rank = spot.rank; shown = shown })) ≡ spot
 spot_said p spot shown is x_is =
     let y_is : (segment_at p.plan spot.die spot.segment).y ≡ spot.y =
-      ap (λ (s : Segment). s.y) (get_or_from_slice_get (segments p.plan spot.die) spot.segment is.segment no_segment is.there) ∙ sym is.row in
+    ap (λ (s : Segment). s.y) (get_or_from_slice_get (segments p.plan spot.die) spot.segment is.segment no_segment is.there) ∙ sym is.row in
     λ i. record { die = spot.die; segment = spot.segment; rank = spot.rank; x = x_is i; y = y_is i }
 
 -- A trial that lists the lanes of a placement, each cell at its spot's x, shows the placement's spots,
