@@ -1,0 +1,12 @@
+use Rattle.std.proofs.Common.{take, flat_map}
+use Rattle.fp_text.specs.Writing.{told, GoesOn, Adds}
+use Rattle.fp_cert.specs.CertText.{cell_line}
+use Rattle.fp_cert.proofs.trial_lines.write_cells.Given as goal
+
+abbrev pub invariant-loop-cell : goal.invariant-loop-cell
+invariant-loop-cell g l =
+    let tells = told g.F.Folder.held g.F.Folder.made g.F.Folder.faults in
+    record {
+      adds : Adds l.name (flat_map cell_line (take l.cell-index l.fn.cells)) (tells l.fn.folder) (tells l.folder) l.fn.writer l.writer;
+      goes_on : GoesOn l.name (tells l.folder) l.writer;
+    }

@@ -1,0 +1,18 @@
+//! Certificates: what a run of trials shows of itself, its file and the file's writer.
+#![tactic(auto)]
+
+mod certificate;
+mod lines;
+mod run;
+mod shown;
+mod trial;
+mod trial_lines;
+
+pub use certificate::write_cert;
+pub use run::Run;
+pub use shown::{CellShown, CutShown, Ending, RowShown};
+pub use trial::Trial;
+pub use trial_lines::write_lines;
+
+#[cfg(test)]
+mod tests;
