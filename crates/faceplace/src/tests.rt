@@ -239,6 +239,25 @@ fn expect_score_of(
     done
 }
 
+/// A seed of the small input with its lines changed is done, with this report and this output.
+fn expect_small_seed(
+    rt: &impl Abort,
+    alloc: Global,
+    changes: &Changes,
+    report: &str,
+    output: &str,
+) -> Result<(), Fail> {
+    expect_seed(
+        rt,
+        alloc,
+        SMALL,
+        changes.as_slice(),
+        0,
+        report,
+        Some(output),
+    )
+}
+
 #[test]
 fn seeds_of_the_small_input_are_written_with_their_scores(rt: HostRuntime) -> Result<(), Fail> {
     for (changes, report, output) in [
@@ -255,7 +274,7 @@ fn seeds_of_the_small_input_are_written_with_their_scores(rt: HostRuntime) -> Re
         ),
         (THREE_NETS, "seed 2 first top cut 1 slots 36\n", PLACED),
     ] {
-        expect_seed(&rt, rt.alloc(), SMALL, &changes, 0, report, Some(output))?;
+        expect_small_seed(&rt, rt.alloc(), &changes, report, output)?;
     }
     Ok(())
 }
