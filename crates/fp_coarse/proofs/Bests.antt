@@ -1,13 +1,13 @@
 -- The best so far, as a search goes up and then down.
 use Rattle.std.specs.Prelude.{◌≡◌, ℕ, ◌+◌, ◌<◌, ◌≤◌, Bool, true, false, nat_lt, nat_le, if◌then◌else◌, Option, Some, None, IsTrue, ◌⊎◌, ℤ, ◌≤ℤ◌, ◌-ℤ◌, unsigned_abs, List, length}
-use Rattle.std.proofs.Common.{refl, sym, ap, subst, ◌∙◌, arith, inl, inr}
+use Rattle.std.proofs.Common.{refl, sym, ◌∙◌, arith, inl, inr}
 use Rattle.std.proofs.lemmas.Bool.{cases_lt}
 use Rattle.std.proofs.lemmas.Bool.Decides.{nat_tests}
 use Rattle.std.proofs.lemmas.Int.{ints}
 use Rattle.fp_tech.specs.declared.dies.Segment.{Segment}
 use Rattle.fp_coarse.specs.declared.nearest.Found.{Found}
 use Rattle.fp_coarse.specs.declared.nearest.Aim.{Aim}
-use Rattle.fp_coarse.specs.Nearest.{IsFound, IsBest, is_beaten, is_passed, earlier, later, at, rise_to, reach_to, cost_at, cost_of, CanSearch}
+use Rattle.fp_coarse.specs.Nearest.{IsLeast, IsFound, IsBest, is_beaten, is_passed, earlier, later, at, rise_to, reach_to, cost_at, cost_of, CanSearch}
 use Rattle.fp_coarse.specs.Rooms.{has_free}
 
 passes_not : (passes : ℕ → Bool) (n : ℕ) → passes n ≡ false → IsTrue (passes n) → ⊥
@@ -62,110 +62,112 @@ best_lower passes cost lower low high (Some found) is le shut = record {
     first other from below pass (inl before) = absurd (passes_not passes other (shut other from before) pass)
     first other from below pass (inr behind) = is.is.first other behind below pass
 
--- one more number that passes, above all before it
-pub best_above : (passes : ℕ → Bool) (cost : ℕ → ℕ) (low high : ℕ) (best : Option Found) (other : Found) → IsBest passes cost low high best → low ≤ high
-    → other.segment ≡ high → other.cost ≡ cost high → IsTrue (passes high) → IsBest passes cost low (high + 1) (Some (earlier best other))
-best_above passes cost low high None other is le at_is cost_is pass = record {
+-- further numbers, and the first of least cost among them
+pub best_above : (passes : ℕ → Bool) (cost : ℕ → ℕ) (low middle high : ℕ) (best : Option Found) (other : Found) → IsBest passes cost low middle best → low ≤ middle
+    → IsLeast passes cost middle high other.segment → other.cost ≡ cost other.segment → IsBest passes cost low high (Some (earlier best other))
+best_above passes cost low middle high None other is le far cost_is = record {
   is = record {
-    from = omega (arith, at_is, le);
-    below = omega (arith, at_is);
-    passing = subst (λ n. IsTrue (passes n)) (sym at_is) pass;
-    least = λ n from below passing. by n from below passing (cases_lt n high);
-    first = λ n from below passing. absurd (passes_not passes n (is n from (omega (arith, below, at_is))) passing);
+    from = omega (arith, far.from, le);
+    below = far.below;
+    passing = far.passing;
+    least = λ n from below passing. least n from below passing (cases_lt n middle);
+    first = λ n from below passing. first n from below passing (cases_lt n middle);
   };
-  cost_is = cost_is ∙ ap cost (sym at_is);
+  cost_is = cost_is;
 }
   where
-    by : (n : ℕ) → low ≤ n → n < high + 1 → IsTrue (passes n) → (n < high) ⊎ (high ≤ n) → cost other.segment ≤ cost n
-    by n from below passing (inl before) = absurd (passes_not passes n (is n from before) passing)
-    by n from below passing (inr last) = let same : other.segment ≡ n = omega (arith, below, last, at_is) in omega (arith, ap cost same)
-best_above passes cost low high (Some best) other is le at_is cost_is pass = by (nat_lt other.cost best.cost) refl
+    least : (n : ℕ) → low ≤ n → n < high → IsTrue (passes n) → (n < middle) ⊎ (middle ≤ n) → cost other.segment ≤ cost n
+    least n from below passing (inl before) = absurd (passes_not passes n (is n from before) passing)
+    least n from below passing (inr behind) = far.least n behind below passing
+
+    first : (n : ℕ) → low ≤ n → n < other.segment → IsTrue (passes n) → (n < middle) ⊎ (middle ≤ n) → cost other.segment < cost n
+    first n from below passing (inl before) = absurd (passes_not passes n (is n from before) passing)
+    first n from below passing (inr behind) = far.first n behind below passing
+best_above passes cost low middle high (Some best) other is le far cost_is = by (nat_lt other.cost best.cost) refl
   where
-    other_cost : other.cost ≡ cost other.segment
-    other_cost = cost_is ∙ ap cost (sym at_is)
+    new_least : other.cost < best.cost → (n : ℕ) → low ≤ n → n < high → IsTrue (passes n) → (n < middle) ⊎ (middle ≤ n) → cost other.segment ≤ cost n
+    new_least less n from below passing (inl before) = omega (arith, is.is.least n from before passing, is.cost_is, less, cost_is)
+    new_least less n from below passing (inr behind) = far.least n behind below passing
 
-    new : other.cost < best.cost → (n : ℕ) → low ≤ n → n < high + 1 → IsTrue (passes n) → (n < high) ⊎ (high ≤ n) → cost other.segment ≤ cost n
-    new less n from below passing (inl before) = omega (arith, is.is.least n from before passing, is.cost_is, less, other_cost)
-    new less n from below passing (inr last) = let same : other.segment ≡ n = omega (arith, below, last, at_is) in omega (arith, ap cost same)
+    new_first : other.cost < best.cost → (n : ℕ) → low ≤ n → n < other.segment → IsTrue (passes n) → (n < middle) ⊎ (middle ≤ n) → cost other.segment < cost n
+    new_first less n from below passing (inl before) = omega (arith, is.is.least n from before passing, is.cost_is, less, cost_is)
+    new_first less n from below passing (inr behind) = far.first n behind below passing
 
-    old : best.cost ≤ other.cost → (n : ℕ) → low ≤ n → n < high + 1 → IsTrue (passes n) → (n < high) ⊎ (high ≤ n) → cost best.segment ≤ cost n
+    old : best.cost ≤ other.cost → (n : ℕ) → low ≤ n → n < high → IsTrue (passes n) → (n < middle) ⊎ (middle ≤ n) → cost best.segment ≤ cost n
     old no_less n from below passing (inl before) = is.is.least n from before passing
-    old no_less n from below passing (inr last) = let same : other.segment ≡ n = omega (arith, below, last, at_is) in omega (arith, ap cost same, no_less, is.cost_is, other_cost)
+    old no_less n from below passing (inr behind) = omega (arith, far.least n behind below passing, no_less, is.cost_is, cost_is)
 
-    by : (b : Bool) → nat_lt other.cost best.cost ≡ b → IsFound passes cost low (high + 1) (if b then other else best)
+    by : (b : Bool) → nat_lt other.cost best.cost ≡ b → IsFound passes cost low high (if b then other else best)
     by true e = let less : other.cost < best.cost = grind (arith, nat_tests) in record {
       is = record {
-        from = omega (arith, at_is, le);
-        below = omega (arith, at_is);
-        passing = subst (λ n. IsTrue (passes n)) (sym at_is) pass;
-        least = λ n from below passing. new less n from below passing (cases_lt n high);
-        first = λ n from below passing. omega (arith, is.is.least n from (omega (arith, below, at_is)) passing, is.cost_is, less, other_cost);
+        from = omega (arith, far.from, le);
+        below = far.below;
+        passing = far.passing;
+        least = λ n from below passing. new_least less n from below passing (cases_lt n middle);
+        first = λ n from below passing. new_first less n from below passing (cases_lt n middle);
       };
-      cost_is = other_cost;
+      cost_is = cost_is;
     }
     by false e = let no_less : best.cost ≤ other.cost = grind (arith, nat_tests) in record {
       is = record {
         from = is.is.from;
-        below = omega (arith, is.is.below);
+        below = omega (arith, is.is.below, far.from, far.below);
         passing = is.is.passing;
-        least = λ n from below passing. old no_less n from below passing (cases_lt n high);
+        least = λ n from below passing. old no_less n from below passing (cases_lt n middle);
         first = is.is.first;
       };
       cost_is = is.cost_is;
     }
 
--- one more number that passes, below all before it
-pub best_below : (passes : ℕ → Bool) (cost : ℕ → ℕ) (low high : ℕ) (best : Option Found) (other : Found) → IsBest passes cost (low + 1) high best → low < high
-    → other.segment ≡ low → other.cost ≡ cost low → IsTrue (passes low) → IsBest passes cost low high (Some (later best other))
-best_below passes cost low high None other is le at_is cost_is pass = record {
+-- lower numbers, and the first of least cost among them
+pub best_below : (passes : ℕ → Bool) (cost : ℕ → ℕ) (low middle high : ℕ) (best : Option Found) (other : Found) → IsBest passes cost middle high best → middle ≤ high
+    → IsLeast passes cost low middle other.segment → other.cost ≡ cost other.segment → IsBest passes cost low high (Some (later best other))
+best_below passes cost low middle high None other is le far cost_is = record {
   is = record {
-    from = omega (arith, at_is);
-    below = omega (arith, at_is, le);
-    passing = subst (λ n. IsTrue (passes n)) (sym at_is) pass;
-    least = λ n from below passing. by n from below passing (cases_lt low n);
-    first = λ n from below passing. absurd (omega (arith, from, below, at_is));
+    from = far.from;
+    below = omega (arith, far.below, le);
+    passing = far.passing;
+    least = λ n from below passing. least n from below passing (cases_lt n middle);
+    first = λ n from below passing. far.first n from below passing;
   };
-  cost_is = cost_is ∙ ap cost (sym at_is);
+  cost_is = cost_is;
 }
   where
-    by : (n : ℕ) → low ≤ n → n < high → IsTrue (passes n) → (low < n) ⊎ (n ≤ low) → cost other.segment ≤ cost n
-    by n from below passing (inl behind) = absurd (passes_not passes n (is n (omega (arith, behind)) below) passing)
-    by n from below passing (inr here) = let same : other.segment ≡ n = omega (arith, from, here, at_is) in omega (arith, ap cost same)
-best_below passes cost low high (Some best) other is le at_is cost_is pass = by (nat_le other.cost best.cost) refl
+    least : (n : ℕ) → low ≤ n → n < high → IsTrue (passes n) → (n < middle) ⊎ (middle ≤ n) → cost other.segment ≤ cost n
+    least n from below passing (inl before) = far.least n from before passing
+    least n from below passing (inr behind) = absurd (passes_not passes n (is n behind below) passing)
+best_below passes cost low middle high (Some best) other is le far cost_is = by (nat_le other.cost best.cost) refl
   where
-    other_cost : other.cost ≡ cost other.segment
-    other_cost = cost_is ∙ ap cost (sym at_is)
+    new : other.cost ≤ best.cost → (n : ℕ) → low ≤ n → n < high → IsTrue (passes n) → (n < middle) ⊎ (middle ≤ n) → cost other.segment ≤ cost n
+    new no_more n from below passing (inl before) = far.least n from before passing
+    new no_more n from below passing (inr behind) = omega (arith, is.is.least n behind below passing, is.cost_is, no_more, cost_is)
 
-    new : other.cost ≤ best.cost → (n : ℕ) → low ≤ n → n < high → IsTrue (passes n) → (low < n) ⊎ (n ≤ low) → cost other.segment ≤ cost n
-    new no_more n from below passing (inl behind) = omega (arith, is.is.least n (omega (arith, behind)) below passing, is.cost_is, no_more, other_cost)
-    new no_more n from below passing (inr here) = let same : other.segment ≡ n = omega (arith, from, here, at_is) in omega (arith, ap cost same)
+    old : best.cost < other.cost → (n : ℕ) → low ≤ n → n < high → IsTrue (passes n) → (n < middle) ⊎ (middle ≤ n) → cost best.segment ≤ cost n
+    old less n from below passing (inl before) = omega (arith, far.least n from before passing, is.cost_is, less, cost_is)
+    old less n from below passing (inr behind) = is.is.least n behind below passing
 
-    old : best.cost < other.cost → (n : ℕ) → low ≤ n → n < high → IsTrue (passes n) → (low < n) ⊎ (n ≤ low) → cost best.segment ≤ cost n
-    old less n from below passing (inl behind) = is.is.least n (omega (arith, behind)) below passing
-    old less n from below passing (inr here) = let same : other.segment ≡ n = omega (arith, from, here, at_is) in omega (arith, ap cost same, less, is.cost_is, other_cost)
-
-    first : best.cost < other.cost → (n : ℕ) → low ≤ n → n < best.segment → IsTrue (passes n) → (low < n) ⊎ (n ≤ low) → cost best.segment < cost n
-    first less n from below passing (inl behind) = is.is.first n (omega (arith, behind)) below passing
-    first less n from below passing (inr here) = let same : other.segment ≡ n = omega (arith, from, here, at_is) in omega (arith, ap cost same, less, is.cost_is, other_cost)
+    first : best.cost < other.cost → (n : ℕ) → low ≤ n → n < best.segment → IsTrue (passes n) → (n < middle) ⊎ (middle ≤ n) → cost best.segment < cost n
+    first less n from below passing (inl before) = omega (arith, far.least n from before passing, is.cost_is, less, cost_is)
+    first less n from below passing (inr behind) = is.is.first n behind below passing
 
     by : (b : Bool) → nat_le other.cost best.cost ≡ b → IsFound passes cost low high (if b then other else best)
     by true e = let no_more : other.cost ≤ best.cost = grind (arith, nat_tests) in record {
       is = record {
-        from = omega (arith, at_is);
-        below = omega (arith, at_is, le);
-        passing = subst (λ n. IsTrue (passes n)) (sym at_is) pass;
-        least = λ n from below passing. new no_more n from below passing (cases_lt low n);
-        first = λ n from below passing. absurd (omega (arith, from, below, at_is));
+        from = far.from;
+        below = omega (arith, far.below, le);
+        passing = far.passing;
+        least = λ n from below passing. new no_more n from below passing (cases_lt n middle);
+        first = λ n from below passing. far.first n from below passing;
       };
-      cost_is = other_cost;
+      cost_is = cost_is;
     }
     by false e = let less : best.cost < other.cost = grind (arith, nat_tests) in record {
       is = record {
-        from = omega (arith, is.is.from);
+        from = omega (arith, is.is.from, far.from, far.below);
         below = is.is.below;
         passing = is.is.passing;
-        least = λ n from below passing. old less n from below passing (cases_lt low n);
-        first = λ n from below passing. first less n from below passing (cases_lt low n);
+        least = λ n from below passing. old less n from below passing (cases_lt n middle);
+        first = λ n from below passing. first less n from below passing (cases_lt n middle);
       };
       cost_is = is.cost_is;
     }

@@ -10,5 +10,6 @@ mod Picks
 mod Roominess
 mod Rows
 mod Sorting
+mod Stretches
 mod Taking
 mod Widest

@@ -1,10 +1,11 @@
 -- The segments of a die as segments of a search.
-use Rattle.std.specs.Prelude.{◌≡◌, ◌⊎◌, ℕ, ◌<◌, ◌≤◌, length, ◌≤ℤ◌, Some, slice_get}
+use Rattle.std.specs.Prelude.{◌≡◌, ◌⊎◌, ℕ, ◌<◌, ◌≤◌, length, ◌+ℤ◌, ◌≤ℤ◌, Some, slice_get}
 use Rattle.std.proofs.Common.{ap, inl, inr, arith}
 use Rattle.std.proofs.lemmas.Bool.{cases_lt}
 use Rattle.std.proofs.lemmas.Int.{ints}
 use Rattle.std.proofs.lemmas.Option.{slice_get-get_or}
 use Rattle.fp_base.specs.declared.ids.Die.{Die}
+use Rattle.fp_base.specs.declared.ids.Die.TheVariants.{Top, Bottom}
 use Rattle.fp_tech.specs.declared.dies.DieSpec.{DieSpec}
 use Rattle.fp_tech.specs.declared.dies.Segment.{Segment}
 use Rattle.fp_tech.specs.Plan.{Plan, spec_of, segments, IsPlan, ComesBehind}
@@ -42,9 +43,21 @@ rising plan die i j le below = by (cases_lt i j)
         let one : i ≡ j = omega (arith, le, most) in
         omega (arith, ints, ap (λ n. (at (segments plan die) n).y) one)
 
+-- a die's rows have some height
+some_height : (plan : Plan) → IsPlan plan → (die : Die) → 1 ≤ (spec_of plan die).height
+some_height plan is Top = is.setup.top.some_height
+some_height plan is Bottom = is.setup.bottom.some_height
+
+-- a segment that comes behind another of its row starts at its end or behind it
+starts_behind : (spec : DieSpec) (a b : Segment) → 1 ≤ spec.height → ComesBehind spec a b → a.y ≡ b.y → (a.start +ℤ a.length) ≤ℤ b.start
+starts_behind spec a b some (inl above) same = absurd (omega (arith, ints, above, some, same))
+starts_behind spec a b some (inr beside) same = omega (arith, ints, beside.1)
+
 pub rows_are : (plan : Plan) → IsPlan plan → (die : Die) → AreSegments (segments plan die)
 rows_are plan is die = record {
   few = few_segments plan is die;
   each = λ number below. segment_in (at (segments plan die) number) (segment_in_range plan is die number (at (segments plan die) number) (there plan die number below));
   rising = rising plan die;
+  apart = λ i j less below same. starts_behind (spec_of plan die) (at (segments plan die) i) (at (segments plan die) j) (some_height plan is die)
+      (segments_rise plan die i j (at (segments plan die) i) (at (segments plan die) j) less (there plan die i (omega (arith, less, below))) (there plan die j below)) same;
 }

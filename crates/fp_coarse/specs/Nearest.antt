@@ -1,5 +1,5 @@
 -- The nearest of some numbers: one of least cost, the first among ties.
-use Rattle.std.specs.Prelude.{◌≡◌, ℕ, ◌+◌, ◌<◌, ◌≤◌, ◌^◌, Bool, false, nat_le, nat_lt, if◌then◌else◌, List, length, get_or, Option, Some, None, IsTrue, unsigned_abs, ℤ, pos, ◌+ℤ◌, ◌-ℤ◌, ◌≤ℤ◌}
+use Rattle.std.specs.Prelude.{◌≡◌, ℕ, ◌+◌, ◌<◌, ◌≤◌, ◌^◌, Bool, false, ◌&&◌, ◌||◌, nat_le, nat_lt, int_le, int_lt, if◌then◌else◌, List, length, get_or, Option, Some, None, IsTrue, unsigned_abs, ℤ, pos, ◌+ℤ◌, ◌-ℤ◌, ◌≤ℤ◌}
 use Rattle.fp_base.specs.declared.ids.Point.{Point}
 use Rattle.fp_tech.specs.declared.dies.Segment.{Segment}
 use Rattle.fp_score.specs.FirstFit.{no_segment}
@@ -61,11 +61,23 @@ pub record IsSegment (segment : Segment) : Type 0 where
   pub some : pos 1 ≤ℤ segment.length
   pub long : segment.length ≤ℤ pos (2 ^ 30)
 
--- segments are numbered upwards: no row is lower than one before it
+-- segments are numbered row by row upwards, and those of a row from the left, each behind the end of the one before
 pub record AreSegments (segments : List Segment) : Type 0 where
   pub few : length segments ≤ 2 ^ 16
   pub each : (number : ℕ) → number < length segments → IsSegment (at segments number)
   pub rising : (i j : ℕ) → i ≤ j → j < length segments → (at segments i).y ≤ℤ (at segments j).y
+  pub apart : (i j : ℕ) → i < j → j < length segments → (at segments i).y ≡ (at segments j).y
+      → ((at segments i).start +ℤ (at segments i).length) ≤ℤ (at segments j).start
+
+-- a segment stands on a higher row than a place, or on its row and starts behind it
+abbrev pub is_behind : Point → Segment → Bool
+is_behind place segment = int_lt place.y segment.y || (int_le place.y segment.y && int_lt place.x segment.start)
+
+-- the first segment behind a place
+pub record IsFirstBehind (segments : List Segment) (place : Point) (cut : ℕ) : Type 0 where
+  pub within : cut ≤ length segments
+  pub before : (number : ℕ) → number < cut → is_behind place (at segments number) ≡ false
+  pub behind : (number : ℕ) → cut ≤ number → number < length segments → IsTrue (is_behind place (at segments number))
 
 -- the hull of the segments below a number in x
 pub record IsHullBelow (segments : List Segment) (count : ℕ) (hull : Hull) : Type 0 where
@@ -107,6 +119,10 @@ pub record CanSearch (segments : List Segment) (free most : List ℤ) (aim : Aim
 -- the best of the segments from `low` to below `high`
 abbrev pub IsBestOf : List Segment → List ℤ → Aim → ℕ → ℕ → Option Found → Type 0
 IsBestOf segments free aim low high best = IsBest (has_free free aim.width) (cost_of segments aim) low high best
+
+-- of the segments with room from `low` to below `high`, this is the nearest, the first among ties
+abbrev pub IsNearestOf : List Segment → List ℤ → Aim → ℕ → ℕ → ℕ → Type 0
+IsNearestOf segments free aim low high found = IsLeast (has_free free aim.width) (cost_of segments aim) low high found
 
 -- no segment of a distance of at least this much in y can be better than the best, or as good
 abbrev pub is_beaten : Option Found → ℕ → Bool

@@ -1,9 +1,9 @@
 //! The nearest segment with room.
 
-ghost use Rattle.std.specs.Prelude.{◌≡◌, ℕ, ◌+◌, ◌-◌, ◌<◌, ◌≤◌, ◌^◌, ◌≤ℤ◌, ◌<ℤ◌, ◌+ℤ◌, ◌-ℤ◌, pos, Bool, true, false, Option, Some, None, IsTrue, MatchOption, length, unsigned_abs};
+ghost use Rattle.std.specs.Prelude.{◌≡◌, ◌↔◌, ℕ, ◌+◌, ◌-◌, ◌<◌, ◌≤◌, ◌^◌, ◌≤ℤ◌, ◌<ℤ◌, ◌+ℤ◌, ◌-ℤ◌, pos, Bool, true, false, Option, Some, None, IsTrue, MatchOption, length, unsigned_abs};
 ghost use Rattle.std.specs.Int.{int_min, int_max};
 ghost use Rattle.fp_score.specs.Pick.{distance_to};
-ghost use Rattle.fp_coarse.specs.Nearest.{IsLeastOrNone, IsNear, IsNearPoint, at, reach_to, IsSegment, AreSegments, IsHull, CanSearch, IsBestOf, is_beaten, is_passed, earlier, later, cost_at, AreFree};
+ghost use Rattle.fp_coarse.specs.Nearest.{IsLeastOrNone, IsNear, IsNearPoint, at, reach_to, IsSegment, AreSegments, IsHull, CanSearch, IsBestOf, is_beaten, is_passed, earlier, later, cost_at, cost_of, AreFree, is_behind, IsFirstBehind, IsNearestOf};
 ghost use Rattle.fp_coarse.specs.Rooms.{has_free, AreRooms};
 
 use crate::rooms::Rooms;
@@ -30,6 +30,13 @@ pub struct Aim {
 pub struct Found {
     pub segment: usize,
     pub cost: u64,
+}
+
+/// Segments of one row next to each other, from a number up or down: the nearest of those with room, and where they end.
+#[derive(Clone, Copy)]
+pub struct Stretch {
+    pub nearest: usize,
+    pub end: usize,
 }
 
 /// The hull of segments.
@@ -114,6 +121,22 @@ fn cost_to(segment: &Segment, aim: Aim) -> u64
     rise(segment, aim.target) + distance(segment.start, last, aim.target.x)
 }
 
+// A segment, and how far the cell is moved to it.
+fn found_at(segments: &[Segment], aim: Aim, number: usize) -> Found
+    requires segments { AreSegments segments.now }
+    requires some { pos 1 ≤ℤ aim.width }
+    requires small { aim.width ≤ℤ pos (2 ^ 30) }
+    requires target { IsNearPoint aim.target }
+    requires within { number < length segments.now }
+    ensures segment { result.segment ≡ number }
+    ensures cost { result.cost ≡ cost_of segments.now aim number }
+{
+    Found {
+        segment: number,
+        cost: cost_to(&segments[number], aim),
+    }
+}
+
 // Whether nothing at this distance or farther is better than the best so far.
 fn is_beaten(best: Option<Found>, bound: u64) -> bool
     ensures { result ≡ is_beaten best bound }
@@ -154,6 +177,119 @@ fn later(best: Option<Found>, other: Found) -> Found
     }
 }
 
+// Whether a segment stands on a higher row than a place, or on its row and starts behind it.
+fn is_behind(segment: &Segment, place: Point) -> bool
+    ensures { result ≡ is_behind place segment.now }
+{
+    segment.y > place.y || (segment.y >= place.y && segment.start > place.x)
+}
+
+// The next number to look at: the guess, and from there on one twice as far each time, up to the middle.
+fn probe(low: usize, high: usize, guess: usize) -> usize
+    requires some { low < high }
+    requires few { high ≤ 2 ^ 16 }
+    requires near { guess ≤ 2 ^ 16 }
+    ensures from { low ≤ result }
+    ensures below { result < high }
+{
+    let middle = low + (high - low) / 2;
+    if guess < low {
+        middle.min(2 * low - guess - 1)
+    } else if guess < high {
+        guess
+    } else {
+        middle.max((2 * high).saturating_sub(guess + 1))
+    }
+}
+
+// The first segment behind a place. It is looked for from a guess on, so that a near one is found soon.
+fn first_behind(segments: &[Segment], place: Point, guess: usize) -> usize
+    requires segments { AreSegments segments.now }
+    requires near { guess ≤ length segments.now }
+    ensures { IsFirstBehind segments.now place result }
+{
+    let mut low = 0;
+    let mut high = segments.len();
+    while low < high {
+        let number = probe(low, high, guess);
+        if is_behind(&segments[number], place) {
+            high = number;
+        } else {
+            low = number + 1;
+        }
+    }
+    low
+}
+
+// Whether the next segment is of the same row.
+fn goes_on(segments: &[Segment], number: usize) -> bool
+    requires { number < length segments.now }
+    ensures { IsTrue result ↔ ((number + 1 < length segments.now) × ((at segments.now number).y ≡ (at segments.now (number + 1)).y)) }
+{
+    number + 1 < segments.len() && segments[number].y == segments[number + 1].y
+}
+
+// The stretch from a segment with room upwards. Where it starts at or before the target, so do all of the stretch, and the last with room
+// is the nearest; else it is the nearest of the rest of its row.
+fn stretch_up(segments: &[Segment], rooms: &Rooms, aim: Aim, number: usize) -> Stretch
+    requires search { CanSearch segments.now rooms.now.free.items rooms.now.most.items aim }
+    requires within { number < length segments.now }
+    requires open { IsTrue (has_free rooms.now.free.items aim.width number) }
+    ensures within { result.end ≤ length segments.now }
+    ensures nearest { IsNearestOf segments.now rooms.now.free.items aim number result.end result.nearest }
+{
+    let Segment { y, start, .. } = segments[number];
+    if !goes_on(segments, number) {
+        Stretch {
+            nearest: number,
+            end: number + 1,
+        }
+    } else if start > aim.target.x {
+        let end = first_behind(segments, Point { x: 1 << 30, y }, number);
+        Stretch {
+            nearest: number,
+            end,
+        }
+    } else {
+        let x = aim.target.x;
+        let end = first_behind(segments, Point { x, y }, number);
+        Stretch {
+            nearest: rooms.last_open(aim.width, end) - 1,
+            end,
+        }
+    }
+}
+
+// The stretch from a segment with room downwards. Where it starts behind the target, so do all of the stretch, and the first with room is
+// the nearest; else it is the nearest of its row up to it.
+fn stretch_down(segments: &[Segment], rooms: &Rooms, aim: Aim, number: usize) -> Stretch
+    requires search { CanSearch segments.now rooms.now.free.items rooms.now.most.items aim }
+    requires within { number < length segments.now }
+    requires open { IsTrue (has_free rooms.now.free.items aim.width number) }
+    ensures { IsNearestOf segments.now rooms.now.free.items aim result.end (number + 1) result.nearest }
+{
+    let Segment { y, start, .. } = segments[number];
+    if number == 0 || !goes_on(segments, number - 1) {
+        Stretch {
+            nearest: number,
+            end: number,
+        }
+    } else if start > aim.target.x {
+        let x = aim.target.x;
+        let end = first_behind(segments, Point { x, y }, number);
+        Stretch {
+            nearest: rooms.next_open(aim.width, end),
+            end,
+        }
+    } else {
+        let end = first_behind(segments, Point { x: -1, y }, number);
+        Stretch {
+            nearest: number,
+            end,
+        }
+    }
+}
+
 // The best segment from a number on, where none of these is below the target.
 fn above(segments: &[Segment], rooms: &Rooms, aim: Aim, from: usize) -> Option<Found>
     requires search { CanSearch segments.now rooms.now.free.items rooms.now.most.items aim }
@@ -167,12 +303,9 @@ fn above(segments: &[Segment], rooms: &Rooms, aim: Aim, from: usize) -> Option<F
         if is_beaten(best, rise(&segments[number], aim.target) + aim.side) {
             return best;
         }
-        let other = Found {
-            segment: number,
-            cost: cost_to(&segments[number], aim),
-        };
-        best = Some(earlier(best, other));
-        number = rooms.next_open(aim.width, number + 1);
+        let stretch = stretch_up(segments, rooms, aim, number);
+        best = Some(earlier(best, found_at(segments, aim, stretch.nearest)));
+        number = rooms.next_open(aim.width, stretch.end);
     }
     best
 }
@@ -198,12 +331,9 @@ fn below(
         if is_passed(best, rise(&segments[number], aim.target) + aim.side) {
             return best;
         }
-        let other = Found {
-            segment: number,
-            cost: cost_to(&segments[number], aim),
-        };
-        best = Some(later(best, other));
-        low = rooms.last_open(aim.width, number);
+        let stretch = stretch_down(segments, rooms, aim, number);
+        best = Some(later(best, found_at(segments, aim, stretch.nearest)));
+        low = rooms.last_open(aim.width, stretch.end);
     }
     best
 }

@@ -100,16 +100,35 @@ fn expect_lanes(rt: &impl Abort, lanes: &Lanes<Bottom>, expected: &[&[CellId]]) 
     }
 }
 
-/// What a pick answers: the cells of each segment of the bottom die, or the cell that finds no row.
+/// A segment of the bottom die holds this cell alone.
+fn expect_alone(rt: &impl Abort, lanes: &Lanes<Bottom>, segment: u32, cell: CellId) {
+    assert!(rt; (segment as usize) < lanes.len());
+    assert!(rt; lanes.lane(SegId::new(segment)) == [cell].as_slice());
+}
+
+/// What a pick answers: the cells of each segment of the bottom die, the segments on which the cells stand alone, or the cell that finds
+/// no row.
 #[derive(Clone, Copy)]
 enum Expected<'a> {
     Rows(&'a [&'a [CellId]]),
+    Alone(u32, u32),
     NoRow(CellId),
+}
+
+fn expect_rows(rt: &impl Abort, lanes: &Lanes<Bottom>, expected: Expected<'_>) {
+    match expected {
+        Expected::Rows(cells) => expect_lanes(rt, lanes, cells),
+        Expected::Alone(first, second) => {
+            expect_alone(rt, lanes, first, C1);
+            expect_alone(rt, lanes, second, C2);
+        }
+        Expected::NoRow(_) => assert!(rt; false, "the other answer"),
+    }
 }
 
 fn expect_picked(rt: &impl Abort, picked: &Picked, expected: Expected<'_>) {
     match (picked, expected) {
-        (Picked::Rows { bottom, .. }, Expected::Rows(lanes)) => expect_lanes(rt, bottom, lanes),
+        (Picked::Rows { bottom, .. }, _) => expect_rows(rt, bottom, expected),
         (Picked::NoRow(cell), Expected::NoRow(stuck)) => assert!(rt; *cell == stuck),
         _ => assert!(rt; false, "the other answer"),
     }
@@ -199,4 +218,61 @@ fn segment_of_the_row_below_as_near_as_one_beside(rt: HostRuntime) -> Result<(),
     let targets = [(13, 10), (13, 10)];
     let expected = Expected::Rows(&[&[], &[C2], &[], &[C1]]);
     expect_pick(&rt, rt.alloc(), rows_of(20, 2, &CUT), targets, expected)
+}
+
+// A hole in both rows.
+fn hole(llx: u32, urx: u32) -> Block {
+    Block {
+        die: Die::Bottom,
+        llx,
+        lly: 0,
+        urx,
+        ury: 20,
+    }
+}
+
+// Two rows, each of seven segments: four of length 6, from 0, 13, 24 and 37, and between them three of length 3, too short for a cell.
+fn holes() -> [Block; 7] {
+    [
+        hole(6, 7),
+        hole(10, 13),
+        hole(19, 20),
+        hole(23, 24),
+        hole(30, 31),
+        hole(34, 37),
+        hole(43, 50),
+    ]
+}
+
+// Both cells' target, and the segments that they take.
+const BESIDE: [((i32, i32), (u32, u32)); 13] = [
+    ((-20, 0), (0, 7)),
+    ((60, 0), (6, 13)),
+    ((7, 0), (0, 2)),
+    ((8, 0), (2, 0)),
+    ((13, 0), (2, 9)),
+    ((19, 0), (2, 4)),
+    ((22, 0), (4, 2)),
+    ((8, 5), (2, 9)),
+    ((19, 10), (9, 11)),
+    ((7, 15), (7, 9)),
+    ((33, 15), (13, 11)),
+    ((60, 15), (13, 6)),
+    ((-20, 15), (7, 0)),
+];
+
+#[test]
+fn segments_beside_the_target(rt: HostRuntime) -> Result<(), Fail> {
+    let holes = holes();
+    for (target, (first, second)) in BESIDE {
+        let expected = Expected::Alone(first, second);
+        expect_pick(
+            &rt,
+            rt.alloc(),
+            rows_of(50, 2, &holes),
+            [target, target],
+            expected,
+        )?;
+    }
+    Ok(())
 }
