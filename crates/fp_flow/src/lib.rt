@@ -1,0 +1,4 @@
+//! Trials: placements made one from the other, each shown by what a certificate says of it.
+#![tactic(auto)]
+
+mod terminals;
