@@ -1,1 +1,2 @@
 mod Slottings
+mod Stills

@@ -1,4 +1,5 @@
 //! Trials: placements made one from the other, each shown by what a certificate says of it.
 #![tactic(auto)]
 
+mod still;
 mod terminals;
