@@ -72,7 +72,7 @@ row_is_set grid table chosen (suc last) terminals row below within apart =
     by true same behind =
         let is : row ≡ last = equal row last same in
         let long : net_of table last < length (with_slots grid table chosen last terminals) =
-          omega (arith, length-with_slots grid table chosen last terminals, subst (λ k. net_of table k < length terminals) is within) in
+        omega (arith, length-with_slots grid table chosen last terminals, subst (λ k. net_of table k < length terminals) is within) in
         subst (λ k. terminal_at (set (with_slots grid table chosen last terminals) (net_of table last) (Some (centre_of grid (slice_index chosen last)))) (net_of table k)
         ≡ Some (centre_of grid (get_or chosen k 0))) (sym is)
         (get_or-set_same (with_slots grid table chosen last terminals) (net_of table last) (Some (centre_of grid (slice_index chosen last))) None long)
@@ -124,8 +124,8 @@ lines_list_cuts p placed grid table solution is =
     cut_nets_by_rank p dies nets many (λ rank below.
     let row = is.rows rank (omega (arith, below, rows)) in
     let net : get_or nets rank 0 ≡ net_of table rank =
-      get_or-map (λ (cut : CutShown). cut.net.0) (slotted_lines table solution (length table.rows)) rank no_line 0 (omega (arith, below, rows, length-lines table solution (length table.rows)))
-      ∙ ap (λ (cut : CutShown). cut.net.0) (line_at table solution (length table.rows) rank (omega (arith, below, rows)) no_line) in
+    get_or-map (λ (cut : CutShown). cut.net.0) (slotted_lines table solution (length table.rows)) rank no_line 0 (omega (arith, below, rows, length-lines table solution (length table.rows)))
+    ∙ ap (λ (cut : CutShown). cut.net.0) (line_at table solution (length table.rows) rank (omega (arith, below, rows)) no_line) in
     subst (IsCutNet p dies rank) (sym net) (record { within = row.within; is_cut_net = row.is_cut_net; rank_is = row.in_order }))
   where
     dies : List Die

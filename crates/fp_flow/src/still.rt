@@ -64,11 +64,7 @@ fn show_lane(
 }
 
 /// Adds cells to a row as they stand.
-fn push_still(
-    placement: &Placement,
-    lane: &[CellId],
-    row: &mut RowShown,
-) -> Result<(), NoMemory>
+fn push_still(placement: &Placement, lane: &[CellId], row: &mut RowShown) -> Result<(), NoMemory>
     requires { All (λ cell. cell.0 < length placement.now.spots) lane.now }
     ensures { OnOk result (row.new ≡ record row.old { cells = row.old.cells ++ map (still_cell placement.now) lane.now }) }
 {

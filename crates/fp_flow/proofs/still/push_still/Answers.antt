@@ -1,4 +1,4 @@
-use Rattle.std.proofs.Common.{◌≡◌, ◌∙◌, ◌++◌, ◌∷◌, [], get_or, map, take, append_assoc, ap}
+use Rattle.std.proofs.Common.{◌∙◌, ◌++◌, ◌∷◌, [], get_or, map, take, append_assoc, ap}
 use Rattle.std.proofs.lemmas.Option.{slice_get-get_or}
 use Rattle.fp_cert.specs.Shown.{with_cell}
 use Rattle.fp_flow.specs.Still.{still_cell}

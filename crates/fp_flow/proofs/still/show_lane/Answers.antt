@@ -14,5 +14,5 @@ pub returns-in-Ok : goal.returns-in-Ok
 returns-in-Ok c =
     let lane = get_or_from_slice_get (lanes_of c.args.placement.now c.args.die) c.args.segment c.lane.result.now [] c.lane.ensures.lane in
     let row = c.in-Ok.ensures ∙ ap (λ (row : ShownRow). record row { cells = row.cells ++ map (still_cell c.args.placement.now) c.lane.result.now }) c.new-row.ensures
-      ∙ ap (still_row c.args.placement.now) (sym lane) in
+    ∙ ap (still_row c.args.placement.now) (sym lane) in
     subst (λ shown. OnOk c.push_row.result (c.push_row.new.self ≡ with_row c.args.trial.now c.args.die shown)) row (of_match _ _ c.push_row.result c.push_row.ensures)

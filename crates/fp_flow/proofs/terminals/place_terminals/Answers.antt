@@ -24,10 +24,10 @@ returns-clause-slotted c =
     let set_all = with_slots grid table solution.chosen (length table.rows) placed.terminals in
     let many : length set_all ≡ length p.nets = length-with_slots grid table solution.chosen (length table.rows) placed.terminals ∙ c.requires.of_problem.nets in
     let chosen : set_all ≡ chosen_terminals p grid (dies_of (places_of placed)) solution.chosen =
-      chosen_by_rows p placed grid table solution.chosen set_all is many
-      (λ row below. row_is_set grid table solution.chosen (length table.rows) placed.terminals row below (omega (arith, (is.rows row below).within, c.requires.of_problem.nets))
-      (λ other above least. nets_apart p placed grid table is row other above least))
-      (λ net below uncut. others_stay grid table solution.chosen (length table.rows) placed.terminals net (λ row within. row_is_cut p placed grid table is row within net uncut) ∙ c.requires.alone net below uncut) in
+    chosen_by_rows p placed grid table solution.chosen set_all is many
+    (λ row below. row_is_set grid table solution.chosen (length table.rows) placed.terminals row below (omega (arith, (is.rows row below).within, c.requires.of_problem.nets))
+    (λ other above least. nets_apart p placed grid table is row other above least))
+    (λ net below uncut. others_stay grid table solution.chosen (length table.rows) placed.terminals net (λ row within. row_is_cut p placed grid table is row within net uncut) ∙ c.requires.alone net below uncut) in
     let slotted = c.set_terminals.ensures ∙ ap (λ (terminals : List (Option Point)). record placed { terminals = terminals }) chosen in
     let after = listed ∙ ap (λ cuts. record c.args.trial.now { cuts = cuts ++ slotted_lines table solution (length table.rows) }) c.requires.no_cuts in
     record {
