@@ -81,6 +81,14 @@ impl Trial {
         self.top_cells.as_slice()
     }
 
+    /// Changes how it ended and its score alone: both are known once its lists are full.
+    pub fn end(&mut self, ending: Ending, score: u64)
+        ensures { self.new ≡ record self.old { ending = ending; score = score } }
+    {
+        self.ending = ending;
+        self.score = score;
+    }
+
     /// Adds a segment of a die behind the others. Without memory nothing changes, and the segment is dropped.
     pub fn push_row(&mut self, die: Die, row: RowShown) -> Result<(), NoMemory>
         ensures { MatchResult result (λ _. self.new ≡ with_row self.old die row) (λ _. self.new ≡ self.old) }

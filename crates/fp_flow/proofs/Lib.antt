@@ -1,0 +1,3 @@
+mod Slottings
+mod Stills
+mod Firsts

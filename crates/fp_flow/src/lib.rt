@@ -1,0 +1,6 @@
+//! Trials: placements made one from the other, each shown by what a certificate says of it.
+#![tactic(auto)]
+
+mod first;
+mod still;
+mod terminals;
