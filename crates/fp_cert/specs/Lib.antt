@@ -5,4 +5,5 @@ pub mod Standing
 pub mod StandingLaws
 pub mod Trials
 pub mod CutLinesLaws
+pub mod RowsLaws
 pub mod Certified

@@ -1,3 +1,4 @@
 mod Slottings
 mod Stills
 mod Firsts
+mod Placings

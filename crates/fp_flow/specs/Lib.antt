@@ -1,3 +1,4 @@
 pub mod Slotted
 pub mod Still
 pub mod Firsts
+pub mod Rows

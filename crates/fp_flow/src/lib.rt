@@ -2,5 +2,6 @@
 #![tactic(auto)]
 
 mod first;
+mod rows;
 mod still;
 mod terminals;
