@@ -1,5 +1,5 @@
 -- What a trial's duals and prices show: that each row and the choice of slots are the best.
-use Rattle.std.specs.Prelude.{◌≡◌, ℕ, ◌+◌, ◌<◌, ◌≤◌, ◌==◌, List, ◌∷◌, map, find, set, slice_get, Option, Some, None, unsigned_abs, ◌+ℤ◌}
+use Rattle.std.specs.Prelude.{◌≡◌, ℕ, ◌+◌, ◌<◌, ◌≤◌, ◌^◌, ◌==◌, List, ◌∷◌, All, map, find, set, slice_get, Option, Some, None, unsigned_abs, ◌+ℤ◌}
 use Rattle.fp_base.specs.declared.ids.Die.{Die}
 use Rattle.fp_tech.specs.declared.dies.Segment.{Segment}
 use Rattle.fp_tech.specs.Plan.{segments}
@@ -38,3 +38,10 @@ slot_cost p grid trial net slot = unsigned_abs (net_length p (places_shown p tri
 abbrev pub ArePricesShown : Netlist → Slots → ShownTrial → Type 0
 ArePricesShown p grid trial = (row : ℕ) (cut : CutShown) (slot : ℕ) → slice_get trial.cuts row ≡ Some cut → slot < slot_count grid
     → slot_cost p grid trial cut.net.0 cut.slot.0 + cut.price ≤ slot_cost p grid trial cut.net.0 slot + price_shown trial slot
+
+-- a trial's duals and prices show that its rows and its slots are the best, and are small
+pub record IsCertified (p : Netlist) (grid : Slots) (trial : ShownTrial) : Type 0 where
+  pub duals : AreDualsShown p trial
+  pub prices : ArePricesShown p grid trial
+  pub small_duals : (die : Die) → All (λ row. All (λ dual. dual ≤ 2 ^ 57) (row_duals row)) (rows_of trial die)
+  pub small_prices : All (λ cut. cut.price ≤ 2 ^ 36) trial.cuts

@@ -2,3 +2,4 @@ pub mod Slotted
 pub mod Still
 pub mod Firsts
 pub mod Rows
+pub mod Bases

@@ -1,5 +1,5 @@
 -- A placement whose cut nets have the best slots, and a trial that lists them.
-use Rattle.std.specs.Prelude.{◌≡◌, ℕ, zero, suc, List, length, map, set, slice_index, Option, Some}
+use Rattle.std.specs.Prelude.{◌≡◌, ℕ, ◌≤◌, ◌^◌, zero, suc, List, All, length, map, set, slice_index, Option, Some}
 use Rattle.std.specs.List.{range_with_len}
 use Rattle.fp_base.specs.declared.ids.Point.{Point}
 use Rattle.fp_tech.specs.Slots.{Slots, slot_count, centre_of}
@@ -37,6 +37,8 @@ pub record IsSlotted (p : Netlist) (grid : Slots) (placed slotted : Placed) (bef
   pub slotted_is : slotted ≡ record placed { terminals = chosen_terminals p grid (dies_of (places_of placed)) solution.chosen }
   pub best : IsSlotBest p (places_of placed) grid slotted.terminals
   pub prices : ArePrices (cost_of table) (slot_count grid) solution.chosen solution.prices
+  pub capped : All (λ price. price ≤ 2 ^ 36) solution.prices
+  pub many_prices : length solution.prices ≡ slot_count grid
   pub after_is : after ≡ record before { cuts = slotted_lines table solution (length table.rows) }
   pub nets_are : map (λ cut. cut.net.0) after.cuts ≡ cut_nets p (dies_of (places_of placed))
   pub slots_are : map (λ cut. cut.slot.0) after.cuts ≡ solution.chosen

@@ -6,10 +6,11 @@ ghost use Rattle.fp_place.specs.Cut.{cut};
 ghost use Rattle.fp_place.specs.OnSlots.{AreOnCuts};
 ghost use Rattle.fp_place.specs.Places.{dies_of};
 ghost use Rattle.fp_place.specs.Placed.{places_of, DoAgree, IsPlacementOf, IsInOrder};
+ghost use Rattle.fp_place.specs.Settled.{KeepRules};
 ghost use Rattle.fp_cert.specs.declared.shown.Ending.TheVariants.{Start};
 ghost use Rattle.fp_cert.specs.Shown.{trial_without};
-ghost use Rattle.fp_cert.specs.Standing.{placed_shown};
 ghost use Rattle.fp_cert.specs.Trials.{IsStart};
+ghost use Rattle.fp_flow.specs.Bases.{IsBase};
 ghost use Rattle.fp_flow.specs.Firsts.{IsSeedPlaced};
 
 use crate::still::show_still;
@@ -40,10 +41,11 @@ pub fn fill_first(
     requires slots { cut problem.now (dies_of (places_of placement.old)) ≤ slot_count grid.now }
     requires rows { cut problem.now (dies_of (places_of placement.old)) ≤ matcher.old.row_room }
     requires columns { slot_count grid.now ≤ matcher.old.column_room }
+    requires rules { KeepRules problem.now (dies_of (places_of placement.old)) }
     requires seed { IsSeedPlaced problem.now grid.now placement.old }
     requires empty { trial.old ≡ trial_without Start 0 }
     ensures start { OnOk result (IsStart problem.now grid.now trial.new) }
-    ensures shown { OnOk result (placed_shown problem.now grid.now trial.new ≡ placement.new) }
+    ensures base { OnOk result (IsBase problem.now grid.now trial.new placement.new) }
     ensures row_room { OnOk result (matcher.new.row_room ≡ matcher.old.row_room) }
     ensures column_room { OnOk result (matcher.new.column_room ≡ matcher.old.column_room) }
 {

@@ -75,6 +75,7 @@ stands_with p grid first seats placed sound is_grid fills enough is = record {
       subst (λ slots. cut p (dies_of (places_of placed)) ≤ slot_count slots) (grid_once p.plan.frame p.plan.terminal grid other is_grid is_other)
       (subst (λ dies. cut p dies ≤ slot_count grid) (sym dies_are) enough);
   blocks = legal_keeps_off p (drawn_of (with_terminals p grid seats placed)) sound.plan legal;
+  agree = is.agree;
 }
   where
     fits : first_fit p (slot_count grid) first ≡ Ok seats

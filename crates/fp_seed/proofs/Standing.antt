@@ -68,6 +68,7 @@ laid_is p seats placed is = record {
   lane_at = is.lanes.lane_at;
   of_problem = is.of_problem;
   bare = is.bare;
+  agree = is.agree;
 }
   where
     many : length placed.spots ≡ length seats

@@ -5,7 +5,7 @@ use Rattle.fp_tech.specs.Plan.{segments}
 use Rattle.fp_tech.specs.Slots.{Slots, slot_count, IsGrid}
 use Rattle.fp_netlist.specs.Netlist.{Netlist}
 use Rattle.fp_place.specs.Places.{dies_of}
-use Rattle.fp_place.specs.Placed.{Placed, lanes_of, places_of, drawn_of, IsPlacementOf, IsInOrder}
+use Rattle.fp_place.specs.Placed.{Placed, lanes_of, places_of, drawn_of, IsPlacementOf, IsInOrder, DoAgree}
 use Rattle.fp_place.specs.Drawing.{IsCoordinate}
 use Rattle.fp_place.specs.Blocks.{KeepsOffBlocks}
 use Rattle.fp_place.specs.Cut.{cut}
@@ -29,6 +29,7 @@ pub record IsLaid (p : Netlist) (seats : List Seat) (placed : Placed) : Type 0 w
   pub lane_at : (die : Die) (segment : ℕ) → segment < length (segments p.plan die) → get_or (lanes_of placed die) segment [] ≡ sitters die segment seats
   pub of_problem : IsPlacementOf p placed
   pub bare : placed.terminals ≡ replicate (length p.nets) None
+  pub agree : DoAgree placed
 
 -- a first fit's placement, which is in order, legal and off the blockages; its dies keep the rules, and its cut nets are at most the slots
 pub record IsFirstFit (p : Netlist) (grid : Slots) (first : Die) (placed : Placed) : Type 0 where
@@ -42,6 +43,7 @@ pub record IsFirstFit (p : Netlist) (grid : Slots) (first : Die) (placed : Place
   pub rules : KeepRules p (dies_of (places_of placed))
   pub slots : (other : Slots) → IsGrid p.plan.frame p.plan.terminal other → cut p (dies_of (places_of placed)) ≤ slot_count other
   pub blocks : KeepsOffBlocks p (drawn_of placed)
+  pub agree : DoAgree placed
 
 abbrev pub Fits : Netlist → Slots → Die → Fit → Type 0
 Fits p grid first (Stands placed) = IsFirstFit p grid first placed

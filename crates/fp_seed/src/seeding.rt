@@ -7,7 +7,7 @@ ghost use Rattle.fp_place.specs.Blocks.{KeepsOffBlocks};
 ghost use Rattle.fp_place.specs.Cut.{cut};
 ghost use Rattle.fp_place.specs.Legal.{IsLegal};
 ghost use Rattle.fp_place.specs.Places.{dies_of};
-ghost use Rattle.fp_place.specs.Placed.{drawn_of, places_of, IsInOrder, IsPlacementOf};
+ghost use Rattle.fp_place.specs.Placed.{drawn_of, places_of, DoAgree, IsInOrder, IsPlacementOf};
 ghost use Rattle.fp_place.specs.Settled.{KeepRules};
 ghost use Rattle.fp_score.specs.FirstFit.{first_fit};
 ghost use Rattle.fp_place.specs.OnSlots.{AreOnCuts};
@@ -62,6 +62,7 @@ pub fn seed(alloc: Global, problem: &Problem) -> Result<Seeded, SeedFault>
     ensures slots { IfOk result (λ s. (grid : Slots) → IsGrid problem.now.plan.frame problem.now.plan.terminal grid
         → cut problem.now (dies_of (places_of s.placement)) ≤ slot_count grid) }
     ensures blocks { IfOk result (λ s. KeepsOffBlocks problem.now (drawn_of s.placement)) }
+    ensures agree { IfOk result (λ s. DoAgree s.placement) }
 {
     let grid = Grid::of(problem.dies());
     match fit_with(alloc, problem, &grid, Die::Top)? {
@@ -91,6 +92,7 @@ fn bottom_first(
     ensures slots { IfOk result (λ s. (grid : Slots) → IsGrid problem.now.plan.frame problem.now.plan.terminal grid
         → cut problem.now (dies_of (places_of s.placement)) ≤ slot_count grid) }
     ensures blocks { IfOk result (λ s. KeepsOffBlocks problem.now (drawn_of s.placement)) }
+    ensures agree { IfOk result (λ s. DoAgree s.placement) }
 {
     match fit_with(alloc, problem, grid, Die::Bottom)? {
         Fit::Stands(placement) => Ok(Seeded {
