@@ -2,3 +2,9 @@ mod Slottings
 mod Stills
 mod Firsts
 mod Placings
+mod Layouts
+mod Laying
+mod Chaining
+mod Finishing
+mod Stepping
+mod Answering
