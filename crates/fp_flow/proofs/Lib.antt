@@ -2,3 +2,5 @@ mod Slottings
 mod Stills
 mod Firsts
 mod Placings
+mod Xs
+mod Tops

@@ -2,6 +2,8 @@
 #![tactic(auto)]
 
 mod first;
+mod positions;
+mod rowless;
 mod rows;
 mod still;
 mod terminals;
