@@ -2,3 +2,4 @@ mod Slottings
 mod Stills
 mod Firsts
 mod Placings
+mod Certifying
