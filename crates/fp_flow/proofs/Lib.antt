@@ -10,3 +10,4 @@ mod Stepping
 mod Answering
 mod Xs
 mod Tops
+mod Certifying
