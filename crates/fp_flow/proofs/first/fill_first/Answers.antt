@@ -1,4 +1,5 @@
 use Rattle.std.proofs.Common.{◌∙◌, ap, sym, subst}
+use Rattle.fp_place.specs.Placed.{Placed}
 use Rattle.fp_cert.specs.Shown.{ShownTrial}
 use Rattle.fp_flow.specs.Slotted.{IsSlotted}
 use Rattle.fp_flow.specs.Still.{with_still}
@@ -28,3 +29,6 @@ returns-clause-start c = (first c).start
 
 pub returns-clause-base : goal.returns-clause-base
 returns-clause-base c = (first c).base
+
+pub returns-clause-spots : goal.returns-clause-spots
+returns-clause-spots c = ap (λ (pl : Placed). pl.spots) c.in_ok-place_terminals.ensures.slotted.slotted_is
