@@ -1,6 +1,6 @@
 -- What a trial's prices and duals show: slots that were solved for are the best, and so are cells that stand on their targets.
 use Rattle.std.proofs.Common.{◌≡◌, ◌≢◌, ℕ, zero, suc, ◌+◌, ◌<◌, ◌≤◌, ◌^◌, true, false, List, [], ◌∷◌, length, map, set, slice_get, get_or, Option, Some, None, ℤ, pos, negsuc, ◌+ℤ◌, ◌-ℤ◌, ◌*ℤ◌, ◌≤ℤ◌, unsigned_abs, refl, sym, ap, subst, ◌∙◌, arith}
-use Rattle.std.specs.Prelude.{Bool, ◌==◌, nat_eq, cond, find, slice_index, All}
+use Rattle.std.specs.Prelude.{Bool, nat_eq, cond, find, slice_index, All}
 use Rattle.std.specs.List.{AllByRecursion, range_with_len}
 use Rattle.std.proofs.lemmas.Bool.Decides.{nat_tests}
 use Rattle.std.proofs.lemmas.Int.{ints}
@@ -12,7 +12,6 @@ use Rattle.fp_base.specs.declared.ids.CellId.{CellId}
 use Rattle.fp_base.specs.declared.ids.Die.{Die}
 use Rattle.fp_base.specs.declared.ids.Point.{Point}
 use Rattle.fp_tech.specs.Slots.{Slots, slot_count, centre_of}
-use Rattle.fp_tech.specs.declared.dies.Segment.{Segment}
 use Rattle.fp_netlist.specs.Netlist.{Netlist}
 use Rattle.fp_netlist.specs.Points.{width}
 use Rattle.fp_place.specs.Places.{dies_of}
@@ -190,9 +189,11 @@ falls_by_0 c x on some =
 still_shown : (p : Netlist) (die : Die) (placed : Placed) (lane : List CellId) (from to : ℤ)
     → ShownBy width_of squared_rise from to (row_cells p die (still_row placed lane)) (row_xs (still_row placed lane)) 0 (map (λ (cell : CellShown). cell.dual) (still_row placed lane).cells)
 still_shown p die placed [] from to = λ above. absurd (omega (arith, above))
-still_shown p die placed (cell ∷ lane) from to =
-    (λ above. absurd (omega (arith, above)), falls_by_0 (row_cell p die (still_cell placed cell)) (spot_at placed.spots cell.0).x refl (omega (arith, ints)),
-    still_shown p die placed lane ((spot_at placed.spots cell.0).x +ℤ pos (width p cell.0 die)) to)
+still_shown p die placed (cell ∷ lane) from to = (
+  λ above. absurd (omega (arith, above)),
+  falls_by_0 (row_cell p die (still_cell placed cell)) (spot_at placed.spots cell.0).x refl (omega (arith, ints)),
+  still_shown p die placed lane ((spot_at placed.spots cell.0).x +ℤ pos (width p cell.0 die)) to,
+)
 
 row_still : (p : Netlist) (die : Die) (placed : Placed) (lane : List CellId) (from to : ℤ)
     → AreDuals (row_cells p die (still_row placed lane)) from to (row_xs (still_row placed lane)) (row_duals (still_row placed lane))
