@@ -2,6 +2,8 @@
 use Rattle.std.proofs.Common.{◌≡◌, ◌≢◌, ◌⊎◌, ℕ, zero, suc, ◌+◌, ◌<◌, ◌≤◌, true, false, List, [], ◌∷◌, ◌++◌, length, map, get_or, slice_get, Some, None, Option, Result, Ok, Err, refl, sym, ap, subst, ◌∙◌, inl, inr, arith}
 use Rattle.std.specs.Prelude.{Bool, nat_lt, if◌then◌else◌, IfSome, is_some}
 use Rattle.std.proofs.lemmas.Bool.Decides.{nat_tests}
+use Rattle.std.proofs.lemmas.List.{length-append}
+use Rattle.std.proofs.lemmas.Bool.{cases_order}
 use Rattle.std.proofs.lemmas.Option.{same_Some, slice_get_within, get_or_from_slice_get, slice_get-get_or}
 use Rattle.fp_base.specs.declared.ids.Die.{Die}
 use Rattle.fp_base.specs.declared.ids.Point.{Point}
@@ -60,13 +62,18 @@ does_no_less p grid dies targets before trial (Ok lined) does has is = at_least_
 -- ---- one trial more
 
 either : (a b : ℕ) → a < b + 1 → (a < b) ⊎ (a ≡ b)
-either a b below = omega (arith, below)
+either a b below = by (cases_order a b)
+  where
+    by : (a ≡ b) ⊎ ((a < b) ⊎ (b < a)) → (a < b) ⊎ (a ≡ b)
+    by (inl same) = inr same
+    by (inr (inl less)) = inl less
+    by (inr (inr more)) = absurd (omega (arith, more, below))
 
 -- a trial of the longer run is one of the shorter, or the new one
 among : (trials : List ShownTrial) (trial : ShownTrial) (number : ℕ) (it : ShownTrial) → slice_get (trials ++ trial ∷ []) number ≡ Some it
     → (slice_get trials number ≡ Some it) ⊎ ((number ≡ length trials) × (trial ≡ it))
 among trials trial number it at =
-    let long : length (trials ++ trial ∷ []) ≡ length trials + 1 = omega arith in
+    let long : length (trials ++ trial ∷ []) ≡ length trials + 1 = length-append trials (trial ∷ []) in
     by (either number (length trials) (omega (arith, slice_get_within (trials ++ trial ∷ []) number it at, long)))
   where
     by : (number < length trials) ⊎ (number ≡ length trials) → (slice_get trials number ≡ Some it) ⊎ ((number ≡ length trials) × (trial ≡ it))
@@ -119,7 +126,7 @@ going_on p grid dies limit run answer next base trial going at is = record {
   start = λ first first_at. going.start first (sym (slice_get-front run.trials trial 0 (omega (arith, going.answer_is))) ∙ first_at);
   steps = steps_more p grid run.trials trial base run.answer going.answer_is at is.step going.steps;
   better = λ number it some it_at. better number it some (among run.trials trial number it it_at);
-  answer_is = omega (arith, going.answer_is);
+  answer_is = omega (arith, going.answer_is, length-append run.trials (trial ∷ []));
   last_is = omega (arith, going.answer_is, last_more 0 0 run.trials trial ∙ ap (λ b. if b then 0 + length run.trials else last_better 0 0 run.trials) (sym is.comes.better_is));
   certified = certified_more p grid run trial going.certified is.comes.certified;
   last = λ it it_at. subst (λ (t : ShownTrial). IsBase p grid t next) (newest it it_at) is.comes.next.0;
@@ -161,14 +168,14 @@ ends_kept p grid dies limit run answer base trial going at is few = record {
   chain = record {
     limit_is = going.limit_is;
     cost_is = going.cost_is;
-    some = omega (arith, going.answer_is);
-    few = omega (arith, going.answer_is, few);
+    some = omega (arith, going.answer_is, length-append run.trials (trial ∷ []));
+    few = omega (arith, going.answer_is, few, length-append run.trials (trial ∷ []));
     start = λ first first_at. going.start first (sym (slice_get-front run.trials trial 0 (omega (arith, going.answer_is))) ∙ first_at);
     steps = steps_more p grid run.trials trial base run.answer going.answer_is at is.step going.steps;
-    goes_on = λ number it some more it_at. going.better number it some (sym (slice_get-front run.trials trial number (omega (arith, more))) ∙ it_at);
+    goes_on = λ number it some more it_at. going.better number it some (sym (slice_get-front run.trials trial number (omega (arith, more, length-append run.trials (trial ∷ [])))) ∙ it_at);
     stops = λ number it ends less it_at.
         let newest : trial ≡ it =
-        same_Some trial it (sym (slice_get-last run.trials trial) ∙ ap (slice_get (run.trials ++ trial ∷ [])) (omega (arith, ends)) ∙ it_at) in
+        same_Some trial it (sym (slice_get-last run.trials trial) ∙ ap (slice_get (run.trials ++ trial ∷ [])) (omega (arith, ends, length-append run.trials (trial ∷ []))) ∙ it_at) in
         not_better it.ending (is.comes.better_is ∙ ap (λ (t : ShownTrial). is_better t.ending) newest);
     answer_is =
         going.last_is ∙ sym (last_more 0 0 run.trials trial ∙ ap (λ b. if b then 0 + length run.trials else last_better 0 0 run.trials) (sym is.comes.better_is));

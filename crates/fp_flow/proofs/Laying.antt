@@ -1,5 +1,5 @@
 -- Picked lanes can be placed, and their rows make a placement that the trial shows.
-use Rattle.std.proofs.Common.{◌≡◌, ℕ, ◌+◌, ◌^◌, ◌<◌, ◌≤◌, List, [], length, map, replicate, get_or, slice_get, Some, Option, None, ℤ, pos, ◌+ℤ◌, ◌-ℤ◌, refl, sym, ap, subst, ◌∙◌, arith}
+use Rattle.std.proofs.Common.{◌≡◌, ℕ, ◌+◌, ◌^◌, ◌<◌, ◌≤◌, List, [], ◌∷◌, length, map, replicate, get_or, slice_get, Some, Option, None, ℤ, pos, ◌+ℤ◌, ◌-ℤ◌, refl, sym, ap, subst, ◌∙◌, arith}
 use Rattle.std.specs.Prelude.{All}
 use Rattle.std.proofs.Math.ListN.{get_or-map}
 use Rattle.std.proofs.lemmas.Int.{ints}
@@ -13,25 +13,28 @@ use Rattle.fp_base.specs.declared.ids.Point.{Point}
 use Rattle.fp_tech.specs.declared.dies.Segment.{Segment}
 use Rattle.fp_tech.specs.Plan.{segments}
 use Rattle.fp_netlist.specs.Netlist.{Netlist, IsSound}
+use Rattle.fp_netlist.specs.Points.{width}
 use Rattle.fp_place.specs.declared.placement.Spot.{Spot}
 use Rattle.fp_place.specs.Drawing.{IsCoordinate}
 use Rattle.fp_place.specs.Placed.{LaneList, Placed, no_spot, spot_at, lanes_on, DoAgree, StandOnce, IsPlacementOf}
 use Rattle.fp_place.specs.PlacedLaws.{entry_on}
 use Rattle.fp_place.specs.Settled.{KeepRules}
+use Rattle.fp_rows.specs.Squares.{Feasible}
 use Rattle.fp_score.specs.FirstFit.{no_segment, segment_at}
 use Rattle.fp_score.specs.Pick.{point_at}
 use Rattle.fp_coarse.specs.Nearest.{IsNearPoint}
 use Rattle.fp_coarse.specs.Picking.{CanPick, HoldAll}
-use Rattle.fp_coarse.specs.PickingLaws.{StandInRows, rows_in_order, rows_in_range}
+use Rattle.fp_coarse.specs.PickingLaws.{StandInRow, StandInRows, widths_of, xs_of, rows_in_order, rows_in_range}
 use Rattle.fp_coarse.specs.Targets.{IsNearTarget}
 use Rattle.fp_cert.specs.declared.shown.CellShown.{CellShown}
 use Rattle.fp_cert.specs.RowsLaws.{IsNearX, row_is}
+use Rattle.fp_cert.specs.Trials.{row_cell}
 use Rattle.fp_cert.specs.Shown.{ShownRow, ShownTrial, rows_of}
 use Rattle.fp_cert.specs.Standing.{spots_shown, spot_by, stand_of, lanes_shown}
 use Rattle.fp_cert.specs.StandingLaws.{ShowsEach, stand_there, entry_shown, spots_are, targets_are}
 use Rattle.fp_flow.specs.Lanes.{CanPlaceAll}
 use Rattle.fp_flow.specs.Steps.{IsLaidFrom}
-use Rattle.fp_flow.proofs.Layouts.{AreBest, lanes_best, rows_best, duals_best, small_best, best_of, rows_stand}
+use Rattle.fp_flow.proofs.Layouts.{no_row, AreBest, lanes_best, rows_best, duals_best, small_best, best_of}
 
 -- ---- what a pick and a placement of rows ask for
 
@@ -68,6 +71,31 @@ can_place p dies top bottom targets sound hold many near die = λ number segment
           let is = near_point targets near cell (omega (arith, inside, many)) in
           record { low = omega (arith, ints, is.x.0); high = omega (arith, ints, is.x.1) });
     }
+
+-- ---- positions of rows
+
+-- feasible positions of a row are those of its cells, where each cell's x is in a list
+in_row : (p : Netlist) (die : Die) (xs : List ℤ) (cells : List CellShown) (from to : ℤ) → ((k : ℕ) (cell : CellShown) → slice_get cells k ≡ Some cell → cell.x ≡ get_or xs cell.cell.0 (pos 0))
+    → Feasible (map (row_cell p die) cells) from to (map (λ (cell : CellShown). cell.x) cells)
+    → StandInRow from to (widths_of p die (map (λ (cell : CellShown). cell.cell) cells)) (xs_of xs (map (λ (cell : CellShown). cell.cell) cells))
+in_row p die xs [] from to same feasible = feasible
+in_row p die xs (cell ∷ cells) from to same feasible =
+    let here = same 0 cell refl in
+    let rest = in_row p die xs cells (cell.x +ℤ pos (width p cell.cell.0 die)) to (λ k c at. same (k + 1) c (ap (slice_get (cell ∷ cells)) (omega arith) ∙ at)) feasible.1 in
+    let behind = λ (x : ℤ). StandInRow (x +ℤ pos (width p cell.cell.0 die)) to (widths_of p die (map (λ (c : CellShown). c.cell) cells)) (xs_of xs (map (λ (c : CellShown). c.cell) cells)) in
+    (subst (λ x. from ≤ℤ x) here feasible.0, subst behind here rest)
+
+-- a placement of the rows' positions stands in them
+pub rows_stand : (p : Netlist) (targets : List Point) (top bottom : LaneList) (trial : ShownTrial) (xs : List ℤ) → AreBest p targets top bottom trial
+    → ((die : Die) (segment rank : ℕ) (row : ShownRow) (shown : CellShown) → slice_get (rows_of trial die) segment ≡ Some row → slice_get row.cells rank ≡ Some shown
+    → shown.x ≡ get_or xs shown.cell.0 (pos 0)) → StandInRows p top bottom xs
+rows_stand p targets top bottom trial xs best same = λ die number segment lane there held.
+    let inside : number < length (rows_of trial die) = omega (arith, slice_get_within (lanes_on top bottom die) number lane held, best.rows die) in
+    let row = get_or (rows_of trial die) number no_row in
+    let at = slice_get-get_or (rows_of trial die) number no_row inside in
+    let is = best.each die number segment lane row there held at in
+    subst (λ (cells : List CellId). StandInRow segment.start (segment.start +ℤ segment.length) (widths_of p die cells) (xs_of xs cells)) is.lane_is
+    (in_row p die xs row.cells segment.start (segment.start +ℤ segment.length) (λ k cell cell_at. same die number k row cell at cell_at) is.best.0)
 
 -- ---- the x of a cell
 

@@ -1,7 +1,8 @@
 -- Rows that are added one by one are the rows of all lanes; and the rows of both dies show a placement of their lanes.
 use Rattle.std.proofs.Common.{◌≡◌, ◌⊎◌, ℕ, ◌+◌, ◌^◌, ◌<◌, ◌≤◌, List, [], ◌∷◌, ◌++◌, length, map, get_or, slice_get, Some, ℤ, pos, ◌+ℤ◌, refl, sym, ap, subst, ◌∙◌, inl, inr, append_assoc, arith}
 use Rattle.std.specs.Prelude.{All, None, Option}
-use Rattle.std.proofs.lemmas.List.{append-nil, ext_get_or, length-map, get_or-map}
+use Rattle.std.proofs.lemmas.List.{append-nil, ext_get_or, length-append, length-map, get_or-map}
+use Rattle.std.proofs.lemmas.Bool.{cases_order}
 use Rattle.std.proofs.lemmas.Option.{same_Some, slice_get_within, get_or_from_slice_get, slice_get-get_or}
 use Rattle.fp_base.specs.declared.ids.CellId.{CellId}
 use Rattle.fp_base.specs.declared.ids.Die.{Die}
@@ -11,11 +12,8 @@ use Rattle.fp_tech.specs.declared.dies.Segment.{Segment}
 use Rattle.fp_tech.specs.BookLaws.{slice_get-last, slice_get-front}
 use Rattle.fp_tech.specs.Plan.{segments}
 use Rattle.fp_netlist.specs.Netlist.{Netlist}
-use Rattle.fp_netlist.specs.Points.{width}
 use Rattle.fp_place.specs.Placed.{LaneList, lanes_on}
 use Rattle.fp_score.specs.FirstFit.{no_segment}
-use Rattle.fp_rows.specs.Squares.{Feasible}
-use Rattle.fp_coarse.specs.PickingLaws.{StandInRow, StandInRows, widths_of, xs_of}
 use Rattle.fp_cert.specs.declared.shown.CellShown.{CellShown}
 use Rattle.fp_cert.specs.Shown.{ShownRow, ShownTrial, rows_of, with_row}
 use Rattle.fp_cert.specs.Standing.{lane_shown, lanes_shown}
@@ -28,7 +26,7 @@ use Rattle.fp_flow.specs.Still.{with_rows}
 
 -- ---- one row after the other
 
-no_row : ShownRow
+pub no_row : ShownRow
 no_row = record { first = 0; cells = [] }
 
 none_added : (trial : ShownTrial) (die : Die) → trial ≡ with_rows trial die []
@@ -49,7 +47,12 @@ no_rows p die lanes targets trial = record {
 }
 
 either : (a b : ℕ) → a < b + 1 → (a < b) ⊎ (a ≡ b)
-either a b below = omega (arith, below)
+either a b below = by (cases_order a b)
+  where
+    by : (a ≡ b) ⊎ ((a < b) ⊎ (b < a)) → (a < b) ⊎ (a ≡ b)
+    by (inl same) = inr same
+    by (inr (inl less)) = inl less
+    by (inr (inr more)) = absurd (omega (arith, more, below))
 
 -- the row of the next lane is one more
 pub rows_more : (p : Netlist) (die : Die) (lanes : LaneList) (k : ℕ) (targets : List Point) (old mid new : ShownTrial) (segment : Segment) (lane : List CellId)
@@ -63,7 +66,7 @@ rows_more p die lanes k targets old mid new segment lane there held so_far adds 
 }
   where
     long : length (so_far.rows ++ adds.row ∷ []) ≡ k + 1
-    long = omega (arith, so_far.many)
+    long = omega (arith, so_far.many, length-append so_far.rows (adds.row ∷ []))
 
     by : (number : ℕ) (s : Segment) (l : List CellId) (row : ShownRow) → slice_get (segments p.plan die) number ≡ Some s → slice_get lanes number ≡ Some l
         → slice_get (so_far.rows ++ adds.row ∷ []) number ≡ Some row → (number < k) ⊎ (number ≡ k) → IsBestRow p die s l targets row
@@ -173,28 +176,3 @@ pub small_best : (p : Netlist) (targets : List Point) (top bottom : LaneList) (t
     → All (λ row. All (λ dual. dual ≤ 2 ^ 57) (row_duals row)) (rows_of trial die)
 small_best p targets top bottom trial best die = λ number d below.
     (best_of p targets top bottom trial die number (get_or (rows_of trial die) number d) best (slice_get-get_or (rows_of trial die) number d below)).small
-
--- ---- positions
-
--- feasible positions of a row are those of its cells, where each cell's x is in a list
-in_row : (p : Netlist) (die : Die) (xs : List ℤ) (cells : List CellShown) (from to : ℤ) → ((k : ℕ) (cell : CellShown) → slice_get cells k ≡ Some cell → cell.x ≡ get_or xs cell.cell.0 (pos 0))
-    → Feasible (map (row_cell p die) cells) from to (map (λ (cell : CellShown). cell.x) cells)
-    → StandInRow from to (widths_of p die (map (λ (cell : CellShown). cell.cell) cells)) (xs_of xs (map (λ (cell : CellShown). cell.cell) cells))
-in_row p die xs [] from to same feasible = feasible
-in_row p die xs (cell ∷ cells) from to same feasible =
-    let here = same 0 cell refl in
-    let rest = in_row p die xs cells (cell.x +ℤ pos (width p cell.cell.0 die)) to (λ k c at. same (k + 1) c (ap (slice_get (cell ∷ cells)) (omega arith) ∙ at)) feasible.1 in
-    let behind = λ (x : ℤ). StandInRow (x +ℤ pos (width p cell.cell.0 die)) to (widths_of p die (map (λ (c : CellShown). c.cell) cells)) (xs_of xs (map (λ (c : CellShown). c.cell) cells)) in
-    (subst (λ x. from ≤ℤ x) here feasible.0, subst behind here rest)
-
--- a placement of the rows' positions stands in them
-pub rows_stand : (p : Netlist) (targets : List Point) (top bottom : LaneList) (trial : ShownTrial) (xs : List ℤ) → AreBest p targets top bottom trial
-    → ((die : Die) (segment rank : ℕ) (row : ShownRow) (shown : CellShown) → slice_get (rows_of trial die) segment ≡ Some row → slice_get row.cells rank ≡ Some shown
-    → shown.x ≡ get_or xs shown.cell.0 (pos 0)) → StandInRows p top bottom xs
-rows_stand p targets top bottom trial xs best same = λ die number segment lane there held.
-    let inside : number < length (rows_of trial die) = omega (arith, slice_get_within (lanes_on top bottom die) number lane held, best.rows die) in
-    let row = get_or (rows_of trial die) number no_row in
-    let at = slice_get-get_or (rows_of trial die) number no_row inside in
-    let is = best.each die number segment lane row there held at in
-    subst (λ (cells : List CellId). StandInRow segment.start (segment.start +ℤ segment.length) (widths_of p die cells) (xs_of xs cells)) is.lane_is
-    (in_row p die xs row.cells segment.start (segment.start +ℤ segment.length) (λ k cell cell_at. same die number k row cell at cell_at) is.best.0)
