@@ -35,7 +35,7 @@ use Rattle.fp_flow.specs.Outcomes.{IsSeedOf, IsPlaced}
 
 -- a seed's placement is the seed's over the problem's grid
 pub seed_placed : (p : Netlist) (grid : Slots) (seeded : Seeded) → IsGrid p.plan.frame p.plan.terminal grid → SeedGives p (Ok seeded) → IsSeedPlaced p grid seeded.placement
-seed_placed p grid seeded is_grid (other, other_is, seats, seed, seated) =
+seed_placed p grid seeded is_grid (other, other_is, (seats, seed, seated)) =
     let same : other ≡ grid = grid_once p.plan.frame p.plan.terminal other grid other_is is_grid in
     record {
       first = seeded.first;

@@ -114,7 +114,7 @@ certified_more p grid run trial are mine number it at has = by (among run.trials
     by (inr new) = subst (IsCertified p grid) new.1 (mine (subst (λ (t : ShownTrial). has_rows t.ending ≡ true) (sym new.1) has))
 
 -- the dies that a base shows are those of its placement
-base_dies : (p : Netlist) (grid : Slots) (trial : ShownTrial) (placed : Placed) → IsBase p grid trial placed → dies_shown p trial ≡ dies_of (places_of placed)
+pub base_dies : (p : Netlist) (grid : Slots) (trial : ShownTrial) (placed : Placed) → IsBase p grid trial placed → dies_shown p trial ≡ dies_of (places_of placed)
 base_dies p grid trial placed base = dies_placed p trial base.has ∙ ap (λ (pl : Placed). dies_of (places_of pl)) base.shown
 
 -- a run goes on with a trial that is better

@@ -1,5 +1,5 @@
 -- Picked lanes can be placed, and their rows make a placement that the trial shows.
-use Rattle.std.proofs.Common.{◌≡◌, ℕ, ◌+◌, ◌^◌, ◌<◌, ◌≤◌, List, [], ◌∷◌, length, map, replicate, get_or, slice_get, Some, Option, None, ℤ, pos, ◌+ℤ◌, ◌-ℤ◌, refl, sym, ap, subst, ◌∙◌, arith}
+use Rattle.std.proofs.Common.{◌≡◌, ℕ, suc, ◌+◌, ◌^◌, ◌<◌, ◌≤◌, ◌≤ℤ◌, List, [], ◌∷◌, length, map, replicate, get_or, slice_get, Some, Option, None, ℤ, pos, ◌+ℤ◌, ◌-ℤ◌, refl, sym, ap, subst, ◌∙◌, arith}
 use Rattle.std.specs.Prelude.{All}
 use Rattle.std.proofs.Math.ListN.{get_or-map}
 use Rattle.std.proofs.lemmas.Int.{ints}
@@ -38,7 +38,7 @@ use Rattle.fp_flow.proofs.Layouts.{no_row, AreBest, lanes_best, rows_best, duals
 
 -- ---- what a pick and a placement of rows ask for
 
-no_point : Point
+abbrev no_point : Point
 no_point = record { x = pos 0; y = pos 0 }
 
 near_point : (targets : List Point) → All IsNearTarget targets → (cell : ℕ) → cell < length targets → IsNearTarget (point_at targets cell)
@@ -81,7 +81,7 @@ in_row : (p : Netlist) (die : Die) (xs : List ℤ) (cells : List CellShown) (fro
 in_row p die xs [] from to same feasible = feasible
 in_row p die xs (cell ∷ cells) from to same feasible =
     let here = same 0 cell refl in
-    let rest = in_row p die xs cells (cell.x +ℤ pos (width p cell.cell.0 die)) to (λ k c at. same (k + 1) c (ap (slice_get (cell ∷ cells)) (omega arith) ∙ at)) feasible.1 in
+    let rest = in_row p die xs cells (cell.x +ℤ pos (width p cell.cell.0 die)) to (λ k c at. same (suc k) c at) feasible.1 in
     let behind = λ (x : ℤ). StandInRow (x +ℤ pos (width p cell.cell.0 die)) to (widths_of p die (map (λ (c : CellShown). c.cell) cells)) (xs_of xs (map (λ (c : CellShown). c.cell) cells)) in
     (subst (λ x. from ≤ℤ x) here feasible.0, subst behind here rest)
 

@@ -1,6 +1,6 @@
 //! The layout of chosen rows: each cell where its row costs the least.
 
-ghost use Rattle.std.specs.Prelude.{◌≡◌, IfOk, length, map};
+ghost use Rattle.std.specs.Prelude.{◌≡◌, [], IfOk, length, map};
 ghost use Rattle.fp_base.specs.declared.ids.Die.TheVariants as sides;
 ghost use Rattle.fp_tech.specs.Plan.{segments};
 ghost use Rattle.fp_place.specs.Placed.{StandOnce};
@@ -41,6 +41,7 @@ pub fn lay(
     requires bottom_rows { CanPlaceAll problem.now sides.Bottom targets.now bottom }
     ensures { IfOk result (λ laid. IsLaidFrom problem.now top bottom targets.now laid.trial laid.placement) }
 {
+    let _cells = problem.cells();
     let mut trial = Trial::new(alloc, Ending::Better, 0);
     let xs = place_both(alloc, problem, targets, &top, &bottom, scratch, &mut trial)?;
     let placement = Placement::build(alloc, problem, top, bottom, &xs);

@@ -78,6 +78,7 @@ fn by_targets(
     ensures made { IfOk result (λ made. IsOfTargets problem.now grid.now dies.now targets.now before made.trial made.better) }
     ensures room { IfOk result (λ _. HaveRoom problem.now grid.now dies.now buffers.new) }
 {
+    let _cells = problem.cells();
     match pick(alloc, problem, dies, targets)? {
         Picked::Rows { top, bottom } => {
             let laid = lay(alloc, problem, targets, top, bottom, &mut buffers.rows)?;
@@ -123,6 +124,7 @@ fn finish(
     ensures row_room { IfOk result (λ _. matcher.new.row_room ≡ matcher.old.row_room) }
     ensures column_room { IfOk result (λ _. matcher.new.column_room ≡ matcher.old.column_room) }
 {
+    let _cells = problem.cells();
     place_terminals(
         alloc,
         problem,
