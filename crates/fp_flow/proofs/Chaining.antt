@@ -250,3 +250,32 @@ begun_going p grid dies limit placed answer run is dies_are =
     only : (number : ℕ) (it : ShownTrial) → slice_get (is.trial ∷ []) number ≡ Some it → is.trial ≡ it
     only zero it at = same_Some is.trial it at
     only (suc number) it at = absurd (omega (arith, slice_get_within (is.trial ∷ []) (suc number) it at))
+
+-- ---- a trial that is added
+
+-- where it goes on
+pub added_goes : (p : Netlist) (grid : Slots) (dies : List Die) (limit number : ℕ) (run new : ShownRun) (before after : Placed) (base trial : ShownTrial) (better : Option Placed)
+    → IsGoing p grid dies limit run before → slice_get run.trials run.answer ≡ Some base → IsNext p grid base trial better → number ≡ run.answer + 1
+    → IsAdded number trial better true run new before after → IsGoing p grid dies limit new after × (new.answer ≡ number)
+added_goes p grid dies limit number run new before after base trial None going at next same added = absurd (let no : true ≡ false = added.goes_is in cc)
+added_goes p grid dies limit number run new before after base trial (Some placed) going at next same added =
+    let new_is : new ≡ record (with_trial run trial) { answer = run.answer + 1 } = added.taken.0 ∙ ap (λ n. record (with_trial run trial) { answer = n }) same in
+    let goes = going_on p grid dies limit run before placed base trial going at next in (
+      subst (λ (r : ShownRun). IsGoing p grid dies limit r after) (sym new_is) (subst (IsGoing p grid dies limit (record (with_trial run trial) { answer = run.answer + 1 })) (sym added.taken.1) goes),
+      ap (λ (r : ShownRun). r.answer) added.taken.0,
+    )
+
+-- where it ends
+pub added_ends : (p : Netlist) (grid : Slots) (dies : List Die) (limit number : ℕ) (run new : ShownRun) (before after : Placed) (base trial : ShownTrial) (better : Option Placed)
+    → IsGoing p grid dies limit run before → slice_get run.trials run.answer ≡ Some base → IsNext p grid base trial better → run.answer < limit
+    → IsAdded number trial better false run new before after → IsWhole p grid limit new after
+added_ends p grid dies limit number run new before after base trial (Some placed) going at next few added = absurd (let no : false ≡ true = added.goes_is in cc)
+added_ends p grid dies limit number run new before after base trial None going at next few added =
+    let left = added.left refl in
+    subst (λ (r : ShownRun). IsWhole p grid limit r after) (sym left.0) (subst (IsWhole p grid limit (with_trial run trial)) (sym left.1) (ends_kept p grid dies limit run before base trial going at next few))
+
+-- the first trial stays
+pub added_behind : (number : ℕ) (run new : ShownRun) (before after : Placed) (trial : ShownTrial) (better : Option Placed) (goes : Bool) → 0 < length run.trials
+    → IsAdded number trial better goes run new before after → slice_get new.trials 0 ≡ slice_get run.trials 0
+added_behind number run new before after trial None goes some added = ap (λ (r : ShownRun). slice_get r.trials 0) (added.left refl).0 ∙ slice_get-front run.trials trial 0 some
+added_behind number run new before after trial (Some placed) goes some added = ap (λ (r : ShownRun). slice_get r.trials 0) added.taken.0 ∙ slice_get-front run.trials trial 0 some
