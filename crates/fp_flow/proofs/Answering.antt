@@ -13,7 +13,8 @@ use Rattle.fp_place.specs.Legal.{IsLegal}
 use Rattle.fp_place.specs.LegalLaws.{in_order_is_legal}
 use Rattle.fp_place.specs.OnSlots.{AreOnCuts, AreOnSlots}
 use Rattle.fp_place.specs.Places.{Place, dies_of}
-use Rattle.fp_place.specs.Placed.{Placed, place_of, places_of, drawn_of}
+use Rattle.fp_place.specs.Placed.{Placed, place_of, places_of, drawn_of, DoAgree, IsInOrder, IsPlacementOf}
+use Rattle.fp_place.specs.Settled.{KeepRules}
 use Rattle.fp_score.specs.FirstFit.{Seat, seat_dies, seat_places, fit_terminals}
 use Rattle.fp_score.specs.Score.{score}
 use Rattle.fp_score.specs.SlotBest.{IsSlotBest}
@@ -43,6 +44,21 @@ seed_placed p grid seeded is_grid (other, other_is, (seats, seed, seated)) =
       seed = rw same at seed;
       seated = subst (λ (g : Slots). IsSeated p g seats seeded.placement) same seated;
     }
+
+-- a run can begin from it
+pub can_start : (p : Netlist) (grid : Slots) (seeded : Seeded) → IsGrid p.plan.frame p.plan.terminal grid → SeedGives p (Ok seeded) → IsPlacementOf p seeded.placement
+    → DoAgree seeded.placement → IsInOrder p seeded.placement → AreOnCuts p (dies_of (places_of seeded.placement)) seeded.placement.terminals
+    → KeepRules p (dies_of (places_of seeded.placement))
+    → ((other : Slots) → IsGrid p.plan.frame p.plan.terminal other → cut p (dies_of (places_of seeded.placement)) ≤ slot_count other) → CanStart p grid seeded.placement
+can_start p grid seeded is_grid seed of_problem agree in_order on_cuts rules slots = record {
+  of_problem = of_problem;
+  agree = agree;
+  in_order = in_order;
+  on_cuts = on_cuts;
+  rules = rules;
+  slots = slots grid is_grid;
+  seed = seed_placed p grid seeded is_grid seed;
+}
 
 -- and has its score
 pub seed_scored : (p : Netlist) (grid : Slots) (placed : Placed) (total : ℕ) → IsSeedPlaced p grid placed → pos total ≡ score p (places_of placed) placed.terminals → IsSeedOf p grid total

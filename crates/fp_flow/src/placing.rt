@@ -96,6 +96,7 @@ fn place_seed(
     requires agree { DoAgree seeded.placement }
     ensures { IfOk result (λ o. FlowGives problem.now limit (Ok o)) }
 {
+    let _cells = problem.cells();
     let grid = Grid::of(problem.dies());
     let mut answer = seeded.placement;
     let seed_score = score(problem, &answer);
