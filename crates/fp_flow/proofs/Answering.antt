@@ -1,5 +1,5 @@
 -- The whole run of a seed is what the placer answers: its answer is legal, and scores no more than the seed.
-use Rattle.std.proofs.Common.{◌≡◌, ℕ, ◌<◌, ◌≤◌, true, List, [], ◌∷◌, ◌++◌, length, map, get_or, slice_get, Some, Option, Ok, pos, refl, sym, ap, subst, ◌∙◌, arith}
+use Rattle.std.proofs.Common.{◌≡◌, ℕ, ◌≤◌, List, map, get_or, slice_get, Some, Option, Ok, pos, sym, ap, subst, ◌∙◌, arith}
 use Rattle.std.proofs.lemmas.Int.{ints}
 use Rattle.std.proofs.lemmas.Option.{same_Some, slice_get-get_or}
 use Rattle.fp_base.specs.declared.ids.Die.{Die}
@@ -15,14 +15,13 @@ use Rattle.fp_place.specs.OnSlots.{AreOnCuts, AreOnSlots}
 use Rattle.fp_place.specs.Places.{Place, dies_of}
 use Rattle.fp_place.specs.Placed.{Placed, place_of, places_of, drawn_of, DoAgree, IsInOrder, IsPlacementOf}
 use Rattle.fp_place.specs.Settled.{KeepRules}
-use Rattle.fp_score.specs.FirstFit.{Seat, seat_dies, seat_places, fit_terminals}
+use Rattle.fp_score.specs.FirstFit.{seat_dies, fit_terminals}
 use Rattle.fp_score.specs.Score.{score}
 use Rattle.fp_score.specs.SlotBest.{IsSlotBest}
 use Rattle.fp_score.specs.SlotBestLaws.{chosen_on_cuts, chosen_on_slots, slot_best_by_fit}
 use Rattle.fp_seed.specs.declared.seeding.Seeded.{Seeded}
 use Rattle.fp_seed.specs.Seeded.{IsSeated, SeedGives}
 use Rattle.fp_seed.specs.RulesLaws.{dies_of_seats}
-use Rattle.fp_cert.specs.declared.shown.Ending.TheVariants.{Start}
 use Rattle.fp_cert.specs.Endings.{has_rows}
 use Rattle.fp_cert.specs.Shown.{ShownTrial, ShownRun}
 use Rattle.fp_cert.specs.Standing.{places_shown, terminals_shown}

@@ -145,7 +145,16 @@ fn run_over(
     let mut buffers = Buffers::new(alloc, problem, grid, from)?;
     let mut run = first_run(alloc, problem, grid, limit, &mut buffers.matcher, answer)?;
     let dies = settle(alloc, problem, from)?;
-    let made = go_on(alloc, problem, grid, &dies, limit, &mut buffers, &mut run, answer);
+    let made = go_on(
+        alloc,
+        problem,
+        grid,
+        &dies,
+        limit,
+        &mut buffers,
+        &mut run,
+        answer,
+    );
     drop(dies);
     drop(buffers);
     match made {

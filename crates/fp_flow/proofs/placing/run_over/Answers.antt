@@ -1,9 +1,5 @@
-use Rattle.std.proofs.Common.{◌≡◌, ◌∙◌, List, slice_get, ap, sym, subst}
-use Rattle.std.proofs.lemmas.Result.{IfOk-weaker}
+use Rattle.std.proofs.Common.{◌∙◌, ap}
 use Rattle.fp_place.specs.Settled.{settled}
-use Rattle.fp_cert.specs.Shown.{ShownRun}
-use Rattle.fp_flow.specs.Chains.{IsRunFrom}
-use Rattle.fp_flow.proofs.Answering.{begun_first}
 use Rattle.fp_flow.proofs.Chaining.{begun_going}
 use Rattle.fp_flow.proofs.placing.run_over.Goals as goal
 
