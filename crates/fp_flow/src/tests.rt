@@ -90,6 +90,7 @@ fn two_cells(rt: &impl Abort, alloc: Global) -> Result<Problem, Fail> {
 }
 
 /// What a test looks at of an outcome.
+#[derive(Clone, Copy)]
 struct Seen {
     trials: usize,
     last: Option<Ending>,
