@@ -116,6 +116,8 @@ placed_is p grid limit placed run answer total sound is_grid can is from = recor
   answer_is = sym from.whole.base.shown;
   of_problem = from.whole.base.of_problem;
   legal = base_legal p grid (answer_of run) answer sound is_grid from.whole.base;
+  scored =
+      from.whole.base.scored.score_is ∙ ap (λ (pl : Placed). score p (places_of pl) pl.terminals) from.whole.base.shown;
   at_most_seed =
       let first = get_or run.trials 0 no_trial in
       let at = slice_get-get_or run.trials 0 no_trial (omega (arith, from.whole.chain.some)) in

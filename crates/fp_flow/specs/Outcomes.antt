@@ -5,7 +5,7 @@ use Rattle.fp_base.specs.declared.ids.Die.TheVariants.{Top, Bottom}
 use Rattle.fp_tech.specs.Slots.{Slots, slot_count, IsGrid}
 use Rattle.fp_netlist.specs.Netlist.{Netlist}
 use Rattle.fp_place.specs.Legal.{IsLegal}
-use Rattle.fp_place.specs.Placed.{Placed, drawn_of, IsPlacementOf}
+use Rattle.fp_place.specs.Placed.{Placed, drawn_of, places_of, IsPlacementOf}
 use Rattle.fp_score.specs.FirstFit.{Seat, seat_dies, seat_places, fit_terminals, first_fit, IsSeed}
 use Rattle.fp_score.specs.Score.{score}
 use Rattle.fp_cert.specs.Endings.{has_rows}
@@ -25,7 +25,7 @@ pub record IsSeedOf (p : Netlist) (grid : Slots) (total : ℕ) : Type 0 where
   pub total_is : pos total ≡ score p (seat_places p.plan seats) (fit_terminals p grid (seat_dies seats))
 
 -- The run of a problem and a limit, each full trial with duals and prices that show it; the score of its seed; and the placement of its
--- answer, which is legal and scores no more than the seed and than each trial that placed its cells.
+-- answer, which is legal, has the answer's score, and scores no more than the seed and than each trial that placed its cells.
 pub record IsPlaced (p : Netlist) (limit : ℕ) (grid : Slots) (run : ShownRun) (seed_score : ℕ) (answer : Placed) : Type 0 where
   pub grid_is : IsGrid p.plan.frame p.plan.terminal grid
   pub chain : IsChain p grid limit run
@@ -34,6 +34,7 @@ pub record IsPlaced (p : Netlist) (limit : ℕ) (grid : Slots) (run : ShownRun) 
   pub answer_is : answer ≡ placed_shown p grid (answer_of run)
   pub of_problem : IsPlacementOf p answer
   pub legal : IsLegal p (drawn_of answer)
+  pub scored : pos (answer_of run).score ≡ score p (places_of answer) answer.terminals
   pub at_most_seed : (answer_of run).score ≤ seed_score
   pub at_most_each : (number : ℕ) (trial : ShownTrial) → slice_get run.trials number ≡ Some trial → has_rows trial.ending ≡ true → (answer_of run).score ≤ trial.score
 

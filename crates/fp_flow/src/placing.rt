@@ -57,7 +57,7 @@ impl From<NoMemory> for FlowFault {
 /// Places the cells of a problem: the seed with its best terminals, and up to `trials` trials after it, from 1 to 8. Each settles the dies of
 /// the one before it, takes each cell's place of least own length as its target, chooses rows by them, and places each row and the
 /// terminals where they cost the least. The run goes on as long as a trial scores strictly less than the one before it. `Unfit` exactly
-/// where the problem has no seed. The trials are our own; targets, the choice of rows and the placement of a row are after Abacus.
+/// where the problem has no seed. The trials are our own rule; a row is placed after Abacus.
 pub fn place(alloc: Global, problem: &Problem, trials: u32) -> Result<Outcome, FlowFault>
     requires some { 1 ≤ trials }
     requires few { trials ≤ 8 }

@@ -97,15 +97,15 @@ struct Seen {
     seed_score: u64,
 }
 
-/// What a problem is placed as.
-fn seen(alloc: Global, problem: &Problem) -> Result<Seen, Fail> {
+/// Places a problem, in at most three trials.
+fn place_once(alloc: Global, problem: &Problem) -> Result<Seen, Fail> {
     let outcome = place(alloc, problem, 3)?;
-    let seen = seen_of(&outcome);
+    let seen = look_at(&outcome);
     drop(outcome);
     Ok(seen)
 }
 
-fn seen_of(outcome: &Outcome) -> Seen {
+fn look_at(outcome: &Outcome) -> Seen {
     let trials = outcome.run.trials();
     Seen {
         trials: trials.len(),
@@ -117,7 +117,7 @@ fn seen_of(outcome: &Outcome) -> Seen {
 #[test]
 fn cells_that_stand_best_stay(rt: HostRuntime) -> Result<(), Fail> {
     let problem = two_cells(&rt, rt.alloc())?;
-    let seen = seen(rt.alloc(), &problem);
+    let seen = place_once(rt.alloc(), &problem);
     drop(problem);
     let seen = seen?;
     assert_eq!(rt; seen.trials, 2);
