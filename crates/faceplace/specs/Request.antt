@@ -7,16 +7,20 @@ pub data Asked : Type 0 where
   Seed : List ℕ → List ℕ → Asked
   Score : List ℕ → List ℕ → Asked
 
--- a command and two names that differ
-abbrev pub asks_of : List ℕ → List ℕ → List ℕ → Option Asked
-asks_of command first second =
-    if bytes_eq first second then None else if bytes_eq command (codes "seed") then Some (Seed first second)
-    else if bytes_eq command (codes "score") then Some (Score first second) else None
+-- two words, names that differ, make a request
+abbrev pub two_names : (List ℕ → List ℕ → Asked) → List (List ℕ) → Option Asked
+two_names make [] = None
+two_names make (first ∷ []) = None
+two_names make (first ∷ second ∷ []) = if bytes_eq first second then None else Some (make first second)
+two_names make (first ∷ second ∷ third ∷ others) = None
+
+-- what a command asks for, by the words that follow it
+abbrev pub asks_for : List ℕ → List (List ℕ) → Option Asked
+asks_for command words =
+    if bytes_eq command (codes "seed") then two_names Seed words
+    else if bytes_eq command (codes "score") then two_names Score words else None
 
 -- `seed IN OUT` or `score IN OUT`, with two names that differ; other words ask for nothing
 abbrev pub asks : List (List ℕ) → Option Asked
 asks [] = None
-asks (command ∷ []) = None
-asks (command ∷ first ∷ []) = None
-asks (command ∷ first ∷ second ∷ []) = asks_of command first second
-asks (command ∷ first ∷ second ∷ third ∷ others) = None
+asks (command ∷ words) = asks_for command words

@@ -13,7 +13,7 @@ ghost use Rattle.faceplace.specs.Seeding.{IsLineOf};
 ghost use Rattle.faceplace.specs.Status.{code_of, Refuses};
 ghost use Rattle.faceplace.specs.Run.{outside, EndsAs, EndsForProblem};
 
-use crate::input::{self, read_input};
+use crate::input::{self, MOST_INPUT, read_input};
 use crate::refusal::refuse;
 use crate::report::{seed_report, unfit_report};
 use crate::status::{Status, tell};
@@ -136,6 +136,6 @@ pub fn run_seed<F: Folder, S: Sink>(
         Ok(problem) => seed_problem(alloc, &problem, output, folder, out),
         Err(input::Stop::Memory) => Status::NoMemory,
         Err(input::Stop::Device) => Status::Device,
-        Err(input::Stop::Refused(cause)) => refuse(alloc, input, cause, out),
+        Err(input::Stop::Refused(cause)) => refuse(alloc, MOST_INPUT, input, cause, out),
     }
 }
