@@ -50,7 +50,7 @@ IsUnread None held unread = ⊥
 IsUnread (Some (Seed input output)) held unread = UpTo held input (problem_in input) (λ p. ⊥) unread
 IsUnread (Some (Score input output)) held unread = UpTo held input (problem_in input) (λ p. unread ≡ output) unread
 
--- the folder failed at reading a file: nothing was done
+-- the folder failed at reading a file: nothing was done. A count of faults is the folder's and names no file, so that this one failed is not told by it.
 pub record FailsAtReading (asked : Option Asked) (status : ℕ) (old new : Outside) : Type 0 where
   pub name : List ℕ
   pub unread : IsUnread asked old.held name
