@@ -1,6 +1,6 @@
 -- The first trial shows the seed's cells where they stand, and the best terminals.
 use Rattle.std.proofs.Common.{◌≡◌, ℕ, ◌<◌, true, List, [], ◌∷◌, length, map, get_or, slice_get, Option, Some, None, pos, refl, sym, ap, subst, ◌∙◌, arith}
-use Rattle.std.specs.Prelude.{IfSome, option_map}
+use Rattle.std.specs.Prelude.{IfSome}
 use Rattle.std.proofs.Math.ListN.{get_or-map}
 use Rattle.std.proofs.lemmas.List.{length-map}
 use Rattle.std.proofs.lemmas.Option.{same_Some, slice_get-map, slice_get-get_or}
@@ -15,6 +15,7 @@ use Rattle.fp_place.specs.declared.placement.Spot.{Spot}
 use Rattle.fp_place.specs.OnSlots.{AreOnCuts, AreOnSlots}
 use Rattle.fp_place.specs.OnSlotsLaws.{slot_in_range}
 use Rattle.fp_place.specs.Places.{Place, dies_of}
+use Rattle.fp_place.specs.Settled.{KeepRules}
 use Rattle.fp_place.specs.Placed.{LaneList, Placed, no_spot, spot_at, place_of, places_of, lanes_of, DoAgree, StandOnce, IsCentre, IsPlacementOf, IsInOrder}
 use Rattle.fp_score.specs.FirstFit.{Seat}
 use Rattle.fp_score.specs.Score.{corner, score}
@@ -29,9 +30,12 @@ use Rattle.fp_cert.specs.Standing.{target_by, spots_shown, targets_shown, places
 use Rattle.fp_cert.specs.StandingLaws.{ShowsEach, spots_are, targets_are}
 use Rattle.fp_cert.specs.CutLinesLaws.{terminals_are}
 use Rattle.fp_cert.specs.Trials.{cut_nets, no_seat, IsAt, IsScored, IsStart}
+use Rattle.fp_flow.specs.Bases.{IsBase}
 use Rattle.fp_flow.specs.Firsts.{IsSeedPlaced}
 use Rattle.fp_flow.specs.Slotted.{IsSlotted}
 use Rattle.fp_flow.specs.Still.{still_cell, still_row, with_still}
+use Rattle.fp_flow.proofs.Certifying.{slotted_prices, slotted_prices_small, still_duals, still_duals_small}
+use Rattle.fp_flow.proofs.Stills.{mapped}
 
 -- in a placement each cell stands once
 pub once_of : (placed : Placed) (cells : ℕ) → DoAgree placed → length placed.spots ≡ cells → StandOnce cells placed.top placed.bottom
@@ -54,10 +58,6 @@ lane_still placed (cell ∷ lane) = ap (λ rest. cell ∷ rest) (lane_still plac
 pub lanes_still : (placed : Placed) (lanes : LaneList) → map lane_shown (map (still_row placed) lanes) ≡ lanes
 lanes_still placed [] = refl
 lanes_still placed (lane ∷ lanes) = λ i. lane_still placed lane i ∷ lanes_still placed lanes i
-
-mapped : {A B : Type 0} (view : A → B) (o : Option A) (y : B) → option_map view o ≡ Some y → (x : A) × (view x ≡ y)
-mapped view None y is = absurd (let none : None ≡ Some y = is in cc)
-mapped view (Some x) y is = (x, same_Some (view x) y is)
 
 -- a cell's own place among targets
 own_target : (placed : Placed) (cell : ℕ) → ◌≡◌ {A = Point} (record { x = (spot_at placed.spots cell).x; y = (spot_at placed.spots cell).y }) (get_or (map corner (places_of placed)) cell (target_by None))
@@ -139,6 +139,22 @@ pub slotted_on_cuts : (p : Netlist) (grid : Slots) (placed slotted : Placed) (be
 slotted_on_cuts p grid placed slotted before after s =
     subst (λ (pl : Placed). AreOnCuts p (dies_of (places_of pl)) pl.terminals) (sym s.slotted_is) (chosen_on_cuts p grid (dies_of (places_of placed)) s.solution.chosen)
 
+-- a placement of the problem, in order, whose dies keep the rules
+pub record IsKept (p : Netlist) (placed : Placed) : Type 0 where
+  pub of_problem : IsPlacementOf p placed
+  pub agree : DoAgree placed
+  pub in_order : IsInOrder p placed
+  pub rules : KeepRules p (dies_of (places_of placed))
+
+pub slotted_keeps : (p : Netlist) (grid : Slots) (placed slotted : Placed) (before after : ShownTrial) → IsPlan p.plan → IsGrid p.plan.frame p.plan.terminal grid
+    → IsSlotted p grid placed slotted before after → IsPlacementOf p placed → DoAgree placed → IsInOrder p placed → KeepRules p (dies_of (places_of placed)) → IsKept p slotted
+slotted_keeps p grid placed slotted before after plan is_grid s is agree order rules = record {
+  of_problem = slotted_of p grid placed slotted before after plan is_grid is s;
+  agree = subst DoAgree (sym s.slotted_is) agree;
+  in_order = subst (IsInOrder p) (sym s.slotted_is) order;
+  rules = subst (λ (pl : Placed). KeepRules p (dies_of (places_of pl))) (sym s.slotted_is) rules;
+}
+
 -- ---- the first trial
 
 -- a list of seats is that of the spots
@@ -149,12 +165,13 @@ seat_at placed seats cell are below =
 
 pub record IsFirst (p : Netlist) (grid : Slots) (trial : ShownTrial) (slotted : Placed) : Type 0 where
   pub start : IsStart p grid trial
-  pub shown : placed_shown p grid trial ≡ slotted
+  pub base : IsBase p grid trial slotted
 
-pub first_is : (p : Netlist) (grid : Slots) (placed slotted : Placed) (filled : ShownTrial) (total : ℕ) → IsPlacementOf p placed → DoAgree placed → IsInOrder p placed → IsSeedPlaced p grid placed
+pub first_is : (p : Netlist) (grid : Slots) (placed slotted : Placed) (filled : ShownTrial) (total : ℕ) → IsPlan p.plan → IsGrid p.plan.frame p.plan.terminal grid
+    → IsPlacementOf p placed → DoAgree placed → IsInOrder p placed → KeepRules p (dies_of (places_of placed)) → IsSeedPlaced p grid placed
     → IsSlotted p grid placed slotted (with_still placed (trial_without Start 0)) filled → pos total ≡ score p (places_of slotted) slotted.terminals
     → IsFirst p grid (record filled { ending = Start; score = total }) slotted
-first_is p grid placed slotted filled total is agree order seed s score_is = record {
+first_is p grid placed slotted filled total plan is_grid is agree order rules seed s score_is = record {
   start = record {
     ending_is = refl;
     first = seed.first;
@@ -165,9 +182,23 @@ first_is p grid placed slotted filled total is agree order seed s score_is = rec
     seated = λ cell below. subst (λ (spots : List Spot). IsAt (get_or seed.seats cell no_seat) (spot_at spots cell)) (sym spots) (seat_at placed seed.seats cell seed.seated.seats_are (omega (arith, below, is.cells)));
     in_order = subst (IsInOrder p) (sym (shown ∙ s.slotted_is)) order;
     targets_are = targets ∙ ap (λ (spots : List Spot). map corner (map place_of spots)) (sym spots);
-    scored = shown_scored p grid trial placed slotted refl spots (terminals ∙ refl) (ap (λ (pl : Placed). pl.spots) s.slotted_is) s.nets_are s.best score_is (ap (λ (t : ShownTrial). t.top_cells) s.after_is);
+    scored = scored;
   };
-  shown = shown;
+  base = record {
+    has = refl;
+    shown = shown;
+    of_problem = kept.of_problem;
+    agree = kept.agree;
+    in_order = kept.in_order;
+    rules = kept.rules;
+    scored = scored;
+    certified = record {
+      duals = still_duals p trial placed rows;
+      prices = slotted_prices p grid placed slotted bare filled trial is s refl (ap (map place_of) spots) terminals;
+      small_duals = still_duals_small trial placed rows;
+      small_prices = slotted_prices_small p grid placed slotted bare filled trial s refl;
+    };
+  };
 }
   where
     trial : ShownTrial
@@ -217,3 +248,13 @@ first_is p grid placed slotted filled total is agree order seed s score_is = rec
       bottom = lanes Bottom ∙ sym (ap (λ (pl : Placed). pl.bottom) s.slotted_is);
       terminals = terminals;
     })
+
+    scored : IsScored p grid trial
+    scored =
+        shown_scored p grid trial placed slotted refl spots terminals (ap (λ (pl : Placed). pl.spots) s.slotted_is) s.nets_are s.best score_is (ap (λ (t : ShownTrial). t.top_cells) s.after_is)
+
+    bare : ShownTrial
+    bare = with_still placed (trial_without Start 0)
+
+    kept : IsKept p slotted
+    kept = slotted_keeps p grid placed slotted bare filled plan is_grid s is agree order rules

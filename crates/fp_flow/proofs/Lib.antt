@@ -2,3 +2,12 @@ mod Slottings
 mod Stills
 mod Firsts
 mod Placings
+mod Layouts
+mod Laying
+mod Chaining
+mod Finishing
+mod Stepping
+mod Answering
+mod Xs
+mod Tops
+mod Certifying

@@ -1,8 +1,8 @@
 -- Lanes of a placement shown one after the other.
-use Rattle.std.proofs.Common.{◌≡◌, ℕ, ◌+◌, ◌<◌, List, [], ◌∷◌, ◌++◌, length, map, take, get_or, slice_get, Some, Result, Ok, Err, sym, ap, ◌∙◌}
-use Rattle.std.specs.Prelude.{All, OnOk, MatchResult}
+use Rattle.std.proofs.Common.{◌≡◌, ℕ, ◌+◌, ◌<◌, List, [], ◌∷◌, ◌++◌, length, map, take, get_or, slice_get, Option, Some, None, Result, Ok, Err, sym, ap, ◌∙◌}
+use Rattle.std.specs.Prelude.{All, OnOk, MatchResult, option_map}
 use Rattle.std.proofs.lemmas.List.{take_more, map_push}
-use Rattle.std.proofs.lemmas.Option.{slice_get-get_or, slice_get_within, get_or_from_slice_get}
+use Rattle.std.proofs.lemmas.Option.{same_Some, slice_get-get_or, slice_get_within, get_or_from_slice_get}
 use Rattle.fp_base.specs.declared.ids.CellId.{CellId}
 use Rattle.fp_base.specs.declared.ids.Die.{Die}
 use Rattle.fp_place.specs.declared.placement.Spot.{Spot}
@@ -14,6 +14,11 @@ use Rattle.fp_flow.specs.Still.{still_cell}
 pub mapped_more : {A B : Type 0} (f : A → B) (xs : List A) (k : ℕ) (x : A) → slice_get xs k ≡ Some x → map f (take k xs) ++ f x ∷ [] ≡ map f (take (k + 1) xs)
 mapped_more f xs k x at =
     sym (map_push f (take k xs) x) ∙ ap (map f) (sym (take_more xs k x (slice_get_within xs k x at) ∙ ap (λ y. take k xs ++ y ∷ []) (get_or_from_slice_get xs k x x at)))
+
+-- what a value is of, where it is one of a view
+pub mapped : {A B : Type 0} (view : A → B) (o : Option A) (y : B) → option_map view o ≡ Some y → (x : A) × (view x ≡ y)
+mapped view None y is = absurd (let none : None ≡ Some y = is in cc)
+mapped view (Some x) y is = (x, same_Some (view x) y is)
 
 -- a cell as its spot shows it
 pub cell_shown : (placed : Placed) (cell : CellId) (spot : Spot) → slice_get placed.spots cell.0 ≡ Some spot

@@ -3,3 +3,10 @@ pub mod Still
 pub mod Firsts
 pub mod Rows
 pub mod Bases
+pub mod Lanes
+pub mod Steps
+pub mod Buffers
+pub mod Chains
+pub mod Outcomes
+pub mod Positions
+pub mod Tops

@@ -46,6 +46,7 @@ pub fn fill_first(
     requires empty { trial.old ≡ trial_without Start 0 }
     ensures start { OnOk result (IsStart problem.now grid.now trial.new) }
     ensures base { OnOk result (IsBase problem.now grid.now trial.new placement.new) }
+    ensures spots { OnOk result (placement.new.spots ≡ placement.old.spots) }
     ensures row_room { OnOk result (matcher.new.row_room ≡ matcher.old.row_room) }
     ensures column_room { OnOk result (matcher.new.column_room ≡ matcher.old.column_room) }
 {

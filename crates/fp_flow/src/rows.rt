@@ -15,11 +15,26 @@ use fp_rows::RowCell;
 use fp_tech::Segment;
 use std::alloc::Global;
 
-/// The positions of a row's cells, and the duals: one before the first cell and one behind each.
+/// What one row after the other is placed in: the cells of the row, room for its clusters, their positions, and the duals, one before
+/// the first cell and one behind each.
 #[derive(Drop)]
-struct PlacedRow {
+pub struct RowScratch {
+    cells: Vec<RowCell>,
+    work: Vec<Cluster>,
     xs: Vec<i64>,
     duals: Vec<u64>,
+}
+
+impl RowScratch {
+    /// Scratch that holds no row. It takes no memory.
+    pub fn new(alloc: Global) -> RowScratch {
+        RowScratch {
+            cells: Vec::new(alloc),
+            work: Vec::new(alloc),
+            xs: Vec::new(alloc),
+            duals: Vec::new(alloc),
+        }
+    }
 }
 
 /// Places the cells of a lane where they cost the least, and shows them in a trial.
@@ -30,6 +45,7 @@ pub fn place_lane(
     segment: &Segment,
     lane: &[CellId],
     targets: &[Point],
+    scratch: &mut RowScratch,
     trial: &mut Trial,
 ) -> Result<(), NoMemory>
     requires within { All (λ cell. cell.0 < length problem.now.cells) lane.now }
@@ -37,13 +53,9 @@ pub fn place_lane(
     requires row { IsRow (map (cell_for problem.now die targets.now) lane.now) segment.now.start (segment.now.start +ℤ segment.now.length) }
     ensures { OnOk result (AddsBestRow problem.now die segment.now lane.now targets.now trial.old trial.new) }
 {
-    let cells = cells_of(alloc, problem, die, lane, targets)?;
-    let placed = placed_cells(alloc, &cells, start_of(segment), end_of(segment));
-    drop(cells);
-    let placed = placed?;
-    let pushed = push_lane(alloc, die, lane, targets, &placed, trial);
-    drop(placed);
-    pushed
+    fill_cells(problem, die, lane, targets, &mut scratch.cells)?;
+    place_cells(start_of(segment), end_of(segment), scratch)?;
+    push_lane(alloc, die, lane, targets, scratch, trial)
 }
 
 /// Where a segment starts.
@@ -63,23 +75,23 @@ fn end_of(segment: &Segment) -> i64
     segment.start + segment.length
 }
 
-/// The cells of a lane as those of a row.
-fn cells_of(
-    alloc: Global,
+/// Makes a vector hold the cells of a lane as those of a row.
+fn fill_cells(
     problem: &Problem,
     die: Die,
     lane: &[CellId],
     targets: &[Point],
-) -> Result<Vec<RowCell>, NoMemory>
+    cells: &mut Vec<RowCell>,
+) -> Result<(), NoMemory>
     requires within { All (λ cell. cell.0 < length problem.now.cells) lane.now }
     requires targets { length targets.now ≡ length problem.now.cells }
-    ensures { IfOk result (λ cells. cells.items ≡ map (cell_for problem.now die targets.now) lane.now) }
+    ensures { OnOk result (cells.new.items ≡ map (cell_for problem.now die targets.now) lane.now) }
 {
-    let mut cells = Vec::with_capacity(alloc, lane.len())?;
+    cells.clear();
     for cell in lane {
         cells.push(row_cell(problem, die, *cell, targets))?;
     }
-    Ok(cells)
+    Ok(())
 }
 
 /// A cell as one of a row: it weighs as much as it has connections, and at least 1.
@@ -96,33 +108,41 @@ fn row_cell(problem: &Problem, die: Die, cell: CellId, targets: &[Point]) -> Row
     }
 }
 
-/// Places the cells of a row where they cost the least.
-fn placed_cells(alloc: Global, cells: &[RowCell], lo: i64, hi: i64) -> Result<PlacedRow, NoMemory>
-    requires { IsRow cells.now lo hi }
-    ensures { IfOk result (λ placed. IsPlacedRow cells.now lo hi placed.xs.items placed.duals.items) }
+/// Places the cells of the row that a scratch holds where they cost the least.
+fn place_cells(lo: i64, hi: i64, scratch: &mut RowScratch) -> Result<(), NoMemory>
+    requires { IsRow scratch.old.cells.items lo hi }
+    ensures { OnOk result (IsPlacedRow scratch.old.cells.items lo hi scratch.new.xs.items scratch.new.duals.items) }
 {
-    let mut work = vec![in alloc; Cluster::EMPTY; cells.len()]?;
-    let placed = placed_with(alloc, cells, lo, hi, &mut work);
-    drop(work);
-    placed
+    place_in(
+        &scratch.cells,
+        lo,
+        hi,
+        &mut scratch.work,
+        &mut scratch.xs,
+        &mut scratch.duals,
+    )
 }
 
-/// Places the cells of a row, in this scratch.
-fn placed_with(
-    alloc: Global,
+/// Places the cells of a row where they cost the least.
+fn place_in(
     cells: &[RowCell],
     lo: i64,
     hi: i64,
-    work: &mut [Cluster],
-) -> Result<PlacedRow, NoMemory>
+    work: &mut Vec<Cluster>,
+    xs: &mut Vec<i64>,
+    duals: &mut Vec<u64>,
+) -> Result<(), NoMemory>
     requires row { IsRow cells.now lo hi }
-    requires work { length work.old ≡ length cells.now }
-    ensures { IfOk result (λ placed. IsPlacedRow cells.now lo hi placed.xs.items placed.duals.items) }
+    ensures { OnOk result (IsPlacedRow cells.now lo hi xs.new.items duals.new.items) }
 {
-    let mut xs = vec![in alloc; 0; cells.len()]?;
-    let mut duals = vec![in alloc; 0; cells.len() + 1]?;
-    place_row(cells, lo, hi, work, &mut xs, &mut duals);
-    Ok(PlacedRow { xs, duals })
+    work.clear();
+    xs.clear();
+    duals.clear();
+    work.resize_with(cells.len(), || Cluster::EMPTY)?;
+    xs.resize_with(cells.len(), || 0)?;
+    duals.resize_with(cells.len() + 1, || 0)?;
+    place_row(cells, lo, hi, work, xs, duals);
+    Ok(())
 }
 
 /// Shows a lane's cells at their positions in a trial.
@@ -131,7 +151,7 @@ fn push_lane(
     die: Die,
     lane: &[CellId],
     targets: &[Point],
-    placed: &PlacedRow,
+    placed: &RowScratch,
     trial: &mut Trial,
 ) -> Result<(), NoMemory>
     requires within { All (λ cell. cell.0 < length targets.now) lane.now }
@@ -153,7 +173,7 @@ fn push_lane(
 fn push_cells(
     lane: &[CellId],
     targets: &[Point],
-    placed: &PlacedRow,
+    placed: &RowScratch,
     row: &mut RowShown,
 ) -> Result<(), NoMemory>
     requires within { All (λ cell. cell.0 < length targets.now) lane.now }
@@ -172,7 +192,7 @@ fn push_cells(
 }
 
 /// What is shown of the cell of a rank.
-fn shown(lane: &[CellId], targets: &[Point], placed: &PlacedRow, rank: usize) -> CellShown
+fn shown(lane: &[CellId], targets: &[Point], placed: &RowScratch, rank: usize) -> CellShown
     requires within { All (λ cell. cell.0 < length targets.now) lane.now }
     requires xs { length placed.now.xs.items ≡ length lane.now }
     requires duals { length placed.now.duals.items ≡ length lane.now + 1 }

@@ -65,7 +65,8 @@ fn list_cuts(costs: &SlotCosts, matcher: &Matcher, trial: &mut Trial) -> Result<
     requires choice { IsChoice (length costs.now.rows) (length matcher.now.prices) matcher.now.chosen }
     ensures { OnOk result (trial.new ≡ record trial.old { cuts = trial.old.cuts ++ slotted_lines costs.now matcher.now (length costs.now.rows) }) }
 {
-    for row in 0..costs.rows() {
+    let rows = costs.rows();
+    for row in 0..rows {
         let slot = matcher.column_of(row);
         trial.push_cut(CutShown {
             net: costs.net_of(row),

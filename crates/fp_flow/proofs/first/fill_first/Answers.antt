@@ -1,4 +1,5 @@
 use Rattle.std.proofs.Common.{◌∙◌, ap, sym, subst}
+use Rattle.fp_place.specs.Placed.{Placed}
 use Rattle.fp_cert.specs.Shown.{ShownTrial}
 use Rattle.fp_flow.specs.Slotted.{IsSlotted}
 use Rattle.fp_flow.specs.Still.{with_still}
@@ -21,10 +22,13 @@ first c =
     let before = c.in_ok-show_still.ensures ∙ ap (with_still placed) c.requires.empty in
     let s = subst (λ (trial : ShownTrial). IsSlotted p c.args.grid.now placed slotted trial c.place_terminals.new.trial) before c.in_ok-place_terminals.ensures.slotted in
     subst (λ (trial : ShownTrial). IsFirst p c.args.grid.now trial slotted) (sym c.end.ensures)
-    (first_is p c.args.grid.now placed slotted c.place_terminals.new.trial c.score.result c.requires.of_problem c.requires.agree c.requires.in_order c.requires.seed s c.score.ensures.score)
+    (first_is p c.args.grid.now placed slotted c.place_terminals.new.trial c.score.result c.cells-cells.ensures.sound.plan c.requires.grid c.requires.of_problem c.requires.agree c.requires.in_order c.requires.rules c.requires.seed s c.score.ensures.score)
 
 pub returns-clause-start : goal.returns-clause-start
 returns-clause-start c = (first c).start
 
-pub returns-clause-shown : goal.returns-clause-shown
-returns-clause-shown c = (first c).shown
+pub returns-clause-base : goal.returns-clause-base
+returns-clause-base c = (first c).base
+
+pub returns-clause-spots : goal.returns-clause-spots
+returns-clause-spots c = ap (λ (pl : Placed). pl.spots) c.in_ok-place_terminals.ensures.slotted.slotted_is

@@ -13,15 +13,14 @@ returns c =
     let segment = c.args.segment.now in
     let lane = c.args.lane.now in
     let targets = c.args.targets.now in
-    let xs = c.in_ok-placed.placed.xs.items in
-    let duals = c.in_ok-placed.placed.duals.items in
+    let xs = c.place_cells.new.scratch.xs.items in
+    let duals = c.place_cells.new.scratch.duals.items in
     let from_fits : FitsSigned w64 c.start_of.result = search rules in
     let to_fits : FitsSigned w64 c.end_of.result = search rules in
-    let shown : IsPlacedRow c.deref.result.now c.start_of.result c.end_of.result xs duals =
-    rw (to_z-of_z w64 c.start_of.result from_fits, to_z-of_z w64 c.end_of.result to_fits) at c.in_ok-placed.ensures in
-    let cells = c.deref.ensures.value ∙ c.in_ok-cells.ensures in
+    let shown : IsPlacedRow c.fill_cells.new.cells.items c.start_of.result c.end_of.result xs duals =
+    rw (to_z-of_z w64 c.start_of.result from_fits, to_z-of_z w64 c.end_of.result to_fits) at c.in_ok-place_cells.ensures in
     let placed : IsPlacedRow (map (cell_for p c.args.die targets) lane) segment.start (segment.start +ℤ segment.length) xs duals =
     subst (λ (to : ℤ). IsPlacedRow (map (cell_for p c.args.die targets) lane) segment.start to xs duals) c.end_of.ensures
     (subst (λ (from : ℤ). IsPlacedRow (map (cell_for p c.args.die targets) lane) from c.end_of.result xs duals) c.start_of.ensures
-    (subst (λ (list : List RowCell). IsPlacedRow list c.start_of.result c.end_of.result xs duals) cells shown)) in
-    on_ok c.push_lane-pushed.result (λ new. record { row = placed_row lane targets xs duals; new_is = new; is_best = placed_is_best p c.args.die segment lane targets xs duals placed }) c.push_lane-pushed.ensures
+    (subst (λ (list : List RowCell). IsPlacedRow list c.start_of.result c.end_of.result xs duals) c.in_ok-fill_cells.ensures shown)) in
+    on_ok c.push_lane.result (λ new. record { row = placed_row lane targets xs duals; new_is = new; is_best = placed_is_best p c.args.die segment lane targets xs duals placed }) c.push_lane.ensures

@@ -38,6 +38,8 @@ returns-clause-slotted c =
       best = subst (IsSlotBest p (places_of placed) grid) (sym (ap (λ (placed : Placed). placed.terminals) slotted))
           (least_is_best p placed grid table solution.chosen c.requires.of_problem is c.solve.ensures.choice c.solve.ensures.least);
       prices = subst (λ (slots : Slots). ArePrices (cost_of table) (slot_count slots) solution.chosen solution.prices) is.slots c.solve.ensures.prices;
+      capped = c.solve.ensures.capped;
+      many_prices = c.solve.ensures.each_column ∙ ap slot_count is.slots;
       after_is = after;
       nets_are = ap (λ (trial : ShownTrial). map (λ cut. cut.net.0) trial.cuts) after ∙ lines_list_cuts p placed grid table solution is;
       slots_are = ap (λ (trial : ShownTrial). map (λ cut. cut.slot.0) trial.cuts) after ∙ lines_list_slots table solution (length table.rows) c.solve.ensures.choice.each_row;

@@ -4,7 +4,7 @@ use Rattle.fp_rows.specs.declared.RowCell.{RowCell}
 use Rattle.fp_rows.specs.Squares.{Feasible, IsBest, AreDuals, width_of, squared_rise}
 use Rattle.fp_flow.specs.Rows.{IsPlacedRow}
 use Rattle.fp_flow.proofs.Placings.{written_whole, xs_long, duals_long}
-use Rattle.fp_flow.proofs.rows.placed_with.Goals as goal
+use Rattle.fp_flow.proofs.rows.place_in.Goals as goal
 
 pub returns : goal.returns
 returns c =
@@ -18,8 +18,8 @@ returns c =
     let shown : AreDuals cells c.args.lo c.args.hi c.place_row.new.xs c.place_row.new.duals = rw (lo, hi) at c.place_row.ensures.duals in
     let many : length c.place_row.new.xs ≡ length cells = xs_long width_of c.args.lo c.args.hi cells c.place_row.new.xs feasible in
     let many_duals : length c.place_row.new.duals ≡ length cells + 1 = duals_long width_of squared_rise c.args.lo c.args.hi cells c.place_row.new.xs c.place_row.new.duals shown in
-    let xs = written_whole c.in_ok-xs.xs.len c.place_row.new.xs (drop (length c.place_row.new.xs) c.in_ok-xs.xs.items) (omega (arith, many, c.in_ok-xs.ensures.len)) in
-    let duals = written_whole c.in_ok-duals.duals.len c.place_row.new.duals (drop (length c.place_row.new.duals) c.in_ok-duals.duals.items) (omega (arith, many_duals, c.in_ok-duals.ensures.len)) in
+    let xs = written_whole c.resize_with-2.new.self.len c.place_row.new.xs (drop (length c.place_row.new.xs) c.resize_with-2.new.self.items) (omega (arith, many, c.in_ok-resize_with-2.ensures.len)) in
+    let duals = written_whole c.resize_with-3.new.self.len c.place_row.new.duals (drop (length c.place_row.new.duals) c.resize_with-3.new.self.items) (omega (arith, many_duals, c.in_ok-resize_with-3.ensures.len)) in
     placed_by (sym xs) (sym duals) (record { many = many; many_duals = many_duals; best = best; shown = shown; small = c.place_row.ensures.small })
   where
     placed_by : {cells : List RowCell} {lo hi : ℤ} {xs others : List ℤ} {duals more : List ℕ} → xs ≡ others → duals ≡ more → IsPlacedRow cells lo hi xs duals → IsPlacedRow cells lo hi others more
