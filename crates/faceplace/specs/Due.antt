@@ -1,17 +1,26 @@
 -- What the words and the files make due.
 use Rattle.std.specs.Prelude.{◌≡◌, ◌⊎◌, ℕ, List, [], ◌∷◌, Option, Some, None, pos}
 use Rattle.fp_base.specs.Files.{Files}
+use Rattle.fp_tech.specs.Slots.{Slots}
 use Rattle.fp_netlist.specs.Netlist.{Netlist, IsSound}
 use Rattle.fp_place.specs.declared.judge.Subject.{Subject}
 use Rattle.fp_place.specs.Breaks.{IsFirstBreak}
 use Rattle.fp_place.specs.Drawing.{Drawing}
 use Rattle.fp_place.specs.Legal.{IsLegal}
-use Rattle.faceplace.specs.Request.{Asked, Seed, Score}
+use Rattle.fp_place.specs.Placed.{Placed, drawn_of}
+use Rattle.fp_out.specs.OutText.{out_text}
+use Rattle.fp_cert.specs.CertText.{cert_text}
+use Rattle.fp_cert.specs.Shown.{ShownRun}
+use Rattle.fp_cert.specs.Standing.{placed_shown}
+use Rattle.fp_cert.specs.Trials.{answer_of}
+use Rattle.fp_flow.specs.Outcomes.{IsPlaced}
+use Rattle.faceplace.specs.Request.{Asked, Seed, Score, Place}
 use Rattle.faceplace.specs.Report.{words_report, unfit_report, score_report, broken_report}
 use Rattle.faceplace.specs.Outcome.{Outcome, told, refusal}
 use Rattle.faceplace.specs.Sources.{AfterFile, most_input, problem_in, drawing_in}
 use Rattle.faceplace.specs.Drawn.{drawn_score}
 use Rattle.faceplace.specs.Seeding.{Seeding, Stopping, IsSeeding, IsStopping, seed_text, IsSeedReport}
+use Rattle.faceplace.specs.Trials.{place_report}
 
 -- `seed`, 0: the problem's seed stands; it is written and reported
 pub record SeedStands (p : Netlist) (output : List ℕ) (outcome : Outcome) : Type 0 where
@@ -47,6 +56,26 @@ pub record ScoreBreaks (p : Netlist) (drawing : Drawing) (outcome : Outcome) : T
 abbrev pub ScoreDue : Netlist → Drawing → Outcome → Type 0
 ScoreDue p drawing outcome = ScoreStands p drawing outcome ⊎ ScoreBreaks p drawing outcome
 
+-- a placement is written, and then the certificate of the run that led to it; and this is reported
+abbrev pub placing : Netlist → ShownRun → Placed → List ℕ → List ℕ → List ℕ → Outcome
+placing p run answer output cert report = record {
+  status = 0;
+  report = report;
+  writings = record { name = output; text = out_text p (drawn_of answer) } ∷ record { name = cert; text = cert_text run } ∷ [];
+}
+
+-- `place`, 0: a run of the problem of at most so many trials beside the first one; its answer is legal and no worse than the seed and than
+-- each trial that placed its cells
+pub record PlaceStands (p : Netlist) (output cert : List ℕ) (trials : ℕ) (outcome : Outcome) : Type 0 where
+  pub grid : Slots
+  pub run : ShownRun
+  pub seed_score : ℕ
+  pub placed : IsPlaced p trials grid run seed_score (placed_shown p grid (answer_of run))
+  pub is : outcome ≡ placing p run (placed_shown p grid (answer_of run)) output cert (place_report p seed_score run)
+
+abbrev pub PlaceDue : Netlist → List ℕ → List ℕ → ℕ → Outcome → Type 0
+PlaceDue p output cert trials outcome = PlaceStands p output cert trials outcome ⊎ SeedStops p outcome
+
 -- 3: the input file is not held, too long, or not in its grammar; else what comes next for the problem that it says, which is sound
 abbrev pub AfterInput : Option Files → List ℕ → (Netlist → Type 0) → Outcome → Type 0
 AfterInput held input next outcome =
@@ -62,3 +91,4 @@ IsDue None held outcome = outcome ≡ told 2 words_report
 IsDue (Some (Seed input output)) held outcome = AfterInput held input (λ p. SeedDue p output outcome) outcome
 IsDue (Some (Score input output)) held outcome =
     AfterInput held input (λ p. AfterOutput held p output (λ drawing. ScoreDue p drawing outcome) outcome) outcome
+IsDue (Some (Place input output cert trials)) held outcome = AfterInput held input (λ p. PlaceDue p output cert trials outcome) outcome

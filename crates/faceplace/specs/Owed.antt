@@ -4,7 +4,7 @@ use Rattle.fp_base.specs.Files.{Files}
 use Rattle.fp_netlist.specs.Netlist.{Netlist, IsSound}
 use Rattle.fp_place.specs.Drawing.{Drawing}
 use Rattle.fp_place.specs.Legal.{IsLegal}
-use Rattle.faceplace.specs.Request.{Asked, Seed, Score}
+use Rattle.faceplace.specs.Request.{Asked, Seed, Score, Place}
 use Rattle.faceplace.specs.Sources.{problem_in, drawing_in}
 use Rattle.faceplace.specs.Seeding.{Seeding, Stopping, IsSeeding, IsStopping}
 
@@ -30,3 +30,4 @@ IsOwed None files status = status ≡ 2
 IsOwed (Some (Seed input output)) files status = OwedForInput files input (λ p. SeedOwes p status) status
 IsOwed (Some (Score input output)) files status =
     OwedForInput files input (λ p. OwedForOutput files p output (λ drawing. ScoreOwes p drawing status) status) status
+IsOwed (Some (Place input output cert trials)) files status = OwedForInput files input (λ p. SeedOwes p status) status

@@ -3,7 +3,7 @@ use Rattle.std.specs.Prelude.{◌≡◌, ◌⊎◌, ℕ, List, ◌∷◌, ◌++�
 use Rattle.fp_base.specs.Faults.{Rose}
 use Rattle.fp_base.specs.Files.{Files, WhereTold, OthersStay, followed_by, FrontFollows}
 use Rattle.fp_netlist.specs.Netlist.{Netlist, IsSound}
-use Rattle.faceplace.specs.Request.{Asked, Seed, Score}
+use Rattle.faceplace.specs.Request.{Asked, Seed, Score, Place}
 use Rattle.faceplace.specs.Report.{Cause}
 use Rattle.faceplace.specs.Outcome.{Writing, Outcome, with_writings}
 use Rattle.faceplace.specs.Sources.{AfterFile, problem_in}
@@ -49,6 +49,7 @@ abbrev pub IsUnread : Option Asked → Option Files → List ℕ → Type 0
 IsUnread None held unread = ⊥
 IsUnread (Some (Seed input output)) held unread = UpTo held input (problem_in input) (λ p. ⊥) unread
 IsUnread (Some (Score input output)) held unread = UpTo held input (problem_in input) (λ p. unread ≡ output) unread
+IsUnread (Some (Place input output cert trials)) held unread = UpTo held input (problem_in input) (λ p. ⊥) unread
 
 -- the folder failed at reading a file: nothing was done. A count of faults is the folder's and names no file, so that this one failed is not told by it.
 pub record FailsAtReading (asked : Option Asked) (status : ℕ) (old new : Outside) : Type 0 where

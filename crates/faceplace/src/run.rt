@@ -9,6 +9,7 @@ ghost use Rattle.faceplace.specs.Owed.{IsOwed};
 ghost use Rattle.faceplace.specs.Status.{code_of};
 ghost use Rattle.faceplace.specs.Run.{outside, EndsAs};
 
+use crate::place::run_place;
 use crate::request::{Request, request_of};
 use crate::score::run_score;
 use crate::seed::run_seed;
@@ -26,6 +27,14 @@ fn serve<F: Folder, S: Sink>(alloc: Global, words: &[String], folder: &mut F, ou
         None => tell(out, b"words\n", Status::BadWords),
         Some(Request::Seed { input, output }) => run_seed(alloc, input, output, folder, out),
         Some(Request::Score { input, output }) => run_score(alloc, input, output, folder, out),
+        Some(
+            Request::Place {
+                input,
+                output,
+                cert,
+                trials,
+            },
+        ) => run_place(alloc, input, output, cert, trials, folder, out),
     }
 }
 
