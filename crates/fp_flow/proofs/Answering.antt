@@ -1,5 +1,5 @@
 -- The whole run of a seed is what the placer answers: its answer is legal, and scores no more than the seed.
-use Rattle.std.proofs.Common.{◌≡◌, ℕ, ◌<◌, ◌≤◌, true, List, [], ◌∷◌, ◌++◌, length, map, get_or, slice_get, Some, Option, Ok, pos, refl, sym, ap, subst, ◌∙◌, arith}
+use Rattle.std.proofs.Common.{◌≡◌, ℕ, ◌≤◌, List, map, get_or, slice_get, Some, Option, Ok, pos, sym, ap, subst, ◌∙◌, arith}
 use Rattle.std.proofs.lemmas.Int.{ints}
 use Rattle.std.proofs.lemmas.Option.{same_Some, slice_get-get_or}
 use Rattle.fp_base.specs.declared.ids.Die.{Die}
@@ -13,15 +13,15 @@ use Rattle.fp_place.specs.Legal.{IsLegal}
 use Rattle.fp_place.specs.LegalLaws.{in_order_is_legal}
 use Rattle.fp_place.specs.OnSlots.{AreOnCuts, AreOnSlots}
 use Rattle.fp_place.specs.Places.{Place, dies_of}
-use Rattle.fp_place.specs.Placed.{Placed, place_of, places_of, drawn_of}
-use Rattle.fp_score.specs.FirstFit.{Seat, seat_dies, seat_places, fit_terminals}
+use Rattle.fp_place.specs.Placed.{Placed, place_of, places_of, drawn_of, DoAgree, IsInOrder, IsPlacementOf}
+use Rattle.fp_place.specs.Settled.{KeepRules}
+use Rattle.fp_score.specs.FirstFit.{seat_dies, fit_terminals}
 use Rattle.fp_score.specs.Score.{score}
 use Rattle.fp_score.specs.SlotBest.{IsSlotBest}
 use Rattle.fp_score.specs.SlotBestLaws.{chosen_on_cuts, chosen_on_slots, slot_best_by_fit}
 use Rattle.fp_seed.specs.declared.seeding.Seeded.{Seeded}
 use Rattle.fp_seed.specs.Seeded.{IsSeated, SeedGives}
 use Rattle.fp_seed.specs.RulesLaws.{dies_of_seats}
-use Rattle.fp_cert.specs.declared.shown.Ending.TheVariants.{Start}
 use Rattle.fp_cert.specs.Endings.{has_rows}
 use Rattle.fp_cert.specs.Shown.{ShownTrial, ShownRun}
 use Rattle.fp_cert.specs.Standing.{places_shown, terminals_shown}
@@ -43,6 +43,21 @@ seed_placed p grid seeded is_grid (other, other_is, (seats, seed, seated)) =
       seed = rw same at seed;
       seated = subst (λ (g : Slots). IsSeated p g seats seeded.placement) same seated;
     }
+
+-- a run can begin from it
+pub can_start : (p : Netlist) (grid : Slots) (seeded : Seeded) → IsGrid p.plan.frame p.plan.terminal grid → SeedGives p (Ok seeded) → IsPlacementOf p seeded.placement
+    → DoAgree seeded.placement → IsInOrder p seeded.placement → AreOnCuts p (dies_of (places_of seeded.placement)) seeded.placement.terminals
+    → KeepRules p (dies_of (places_of seeded.placement))
+    → ((other : Slots) → IsGrid p.plan.frame p.plan.terminal other → cut p (dies_of (places_of seeded.placement)) ≤ slot_count other) → CanStart p grid seeded.placement
+can_start p grid seeded is_grid seed of_problem agree in_order on_cuts rules slots = record {
+  of_problem = of_problem;
+  agree = agree;
+  in_order = in_order;
+  on_cuts = on_cuts;
+  rules = rules;
+  slots = slots grid is_grid;
+  seed = seed_placed p grid seeded is_grid seed;
+}
 
 -- and has its score
 pub seed_scored : (p : Netlist) (grid : Slots) (placed : Placed) (total : ℕ) → IsSeedPlaced p grid placed → pos total ≡ score p (places_of placed) placed.terminals → IsSeedOf p grid total

@@ -1,6 +1,6 @@
 -- A run of trials grows by one that is better, or ends; and when it ends it is whole.
-use Rattle.std.proofs.Common.{◌≡◌, ◌≢◌, ◌⊎◌, ℕ, zero, suc, ◌+◌, ◌<◌, ◌≤◌, true, false, List, [], ◌∷◌, ◌++◌, length, map, get_or, slice_get, Some, None, Option, Result, Ok, Err, refl, sym, ap, subst, ◌∙◌, inl, inr, arith}
-use Rattle.std.specs.Prelude.{Bool, nat_lt, if◌then◌else◌, IfSome, is_some}
+use Rattle.std.proofs.Common.{◌≡◌, ◌≢◌, ◌⊎◌, ℕ, zero, suc, ◌+◌, ◌<◌, ◌≤◌, true, false, List, [], ◌∷◌, ◌++◌, length, map, slice_get, Some, None, Option, Result, Ok, Err, refl, sym, ap, subst, ◌∙◌, inl, inr, arith}
+use Rattle.std.specs.Prelude.{Bool, nat_lt, if◌then◌else◌}
 use Rattle.std.proofs.lemmas.Bool.Decides.{nat_tests}
 use Rattle.std.proofs.lemmas.List.{length-append}
 use Rattle.std.proofs.lemmas.Bool.{cases_order}
@@ -20,12 +20,12 @@ use Rattle.fp_cert.specs.declared.shown.Ending.{Ending}
 use Rattle.fp_cert.specs.declared.shown.Ending.TheVariants.{Start, Better, NotBetter, NoRow}
 use Rattle.fp_cert.specs.Certified.{IsCertified}
 use Rattle.fp_cert.specs.Endings.{has_rows}
-use Rattle.fp_cert.specs.Shown.{ShownTrial, ShownRun, run_without, with_trial}
+use Rattle.fp_cert.specs.Shown.{ShownTrial, ShownRun, with_trial}
 use Rattle.fp_cert.specs.Standing.{dies_shown}
-use Rattle.fp_cert.specs.Trials.{is_better, compared, Does, IsStart, IsStep, IsChain, last_better, no_trial, answer_of}
+use Rattle.fp_cert.specs.Trials.{is_better, Does, IsStart, IsStep, last_better, no_trial, answer_of}
 use Rattle.fp_flow.specs.Bases.{IsBase}
 use Rattle.fp_flow.specs.Chains.{AreCertified, IsAdded, IsBegun, IsGoing, IsWhole}
-use Rattle.fp_flow.specs.Steps.{IsWith, IsNext}
+use Rattle.fp_flow.specs.Steps.{IsNext}
 use Rattle.fp_flow.proofs.Firsts.{dies_placed}
 
 -- ---- endings

@@ -5,11 +5,9 @@ use Rattle.std.specs.List.{range_with_len}
 use Rattle.fp_base.specs.declared.ids.Die.{Die}
 use Rattle.fp_base.specs.declared.ids.Die.TheVariants.{Top, Bottom}
 use Rattle.fp_base.specs.declared.ids.Point.{Point}
-use Rattle.fp_tech.specs.declared.dies.Segment.{Segment}
-use Rattle.fp_tech.specs.Plan.{IsPlan, segments}
+use Rattle.fp_tech.specs.Plan.{IsPlan}
 use Rattle.fp_tech.specs.Slots.{Slots, IsGrid}
 use Rattle.fp_netlist.specs.Netlist.{Netlist}
-use Rattle.fp_place.specs.declared.placement.Spot.{Spot}
 use Rattle.fp_place.specs.Places.{dies_of}
 use Rattle.fp_place.specs.Placed.{Placed, place_of, places_of, DoAgree, IsInOrder}
 use Rattle.fp_place.specs.Settled.{KeepRules}
@@ -23,10 +21,10 @@ use Rattle.fp_cert.specs.Standing.{Stand, stands, stands_on, is_stand_of, spot_b
 use Rattle.fp_cert.specs.Trials.{compared, is_better, AreRowsBest, IsScored}
 use Rattle.fp_cert.specs.CutLinesLaws.{terminals_are}
 use Rattle.fp_flow.specs.Bases.{IsBase}
-use Rattle.fp_flow.specs.Slotted.{IsSlotted, slotted_lines}
+use Rattle.fp_flow.specs.Slotted.{IsSlotted}
 use Rattle.fp_flow.specs.Steps.{IsLaid, IsEnded, IsFinished}
 use Rattle.fp_flow.proofs.Certifying.{slotted_prices, slotted_prices_small}
-use Rattle.fp_flow.proofs.Firsts.{IsShown, shown_placed, shown_scored, slotted_of}
+use Rattle.fp_flow.proofs.Firsts.{shown_placed, shown_scored, slotted_of}
 
 -- ---- what a trial shows of its cells is by its rows
 

@@ -1,5 +1,5 @@
 -- Picked lanes can be placed, and their rows make a placement that the trial shows.
-use Rattle.std.proofs.Common.{◌≡◌, ℕ, suc, ◌+◌, ◌^◌, ◌<◌, ◌≤◌, ◌≤ℤ◌, List, [], ◌∷◌, length, map, replicate, get_or, slice_get, Some, Option, None, ℤ, pos, ◌+ℤ◌, ◌-ℤ◌, refl, sym, ap, subst, ◌∙◌, arith}
+use Rattle.std.proofs.Common.{◌≡◌, ℕ, suc, ◌<◌, ◌≤ℤ◌, List, [], ◌∷◌, length, map, replicate, get_or, slice_get, Some, None, ℤ, pos, ◌+ℤ◌, refl, sym, ap, subst, ◌∙◌, arith}
 use Rattle.std.specs.Prelude.{All}
 use Rattle.std.proofs.Math.ListN.{get_or-map}
 use Rattle.std.proofs.lemmas.Int.{ints}
@@ -10,24 +10,22 @@ use Rattle.fp_base.specs.declared.ids.CellId.{CellId}
 use Rattle.fp_base.specs.declared.ids.Die.{Die}
 use Rattle.fp_base.specs.declared.ids.Die.TheVariants.{Top, Bottom}
 use Rattle.fp_base.specs.declared.ids.Point.{Point}
-use Rattle.fp_tech.specs.declared.dies.Segment.{Segment}
 use Rattle.fp_tech.specs.Plan.{segments}
 use Rattle.fp_netlist.specs.Netlist.{Netlist, IsSound}
 use Rattle.fp_netlist.specs.Points.{width}
 use Rattle.fp_place.specs.declared.placement.Spot.{Spot}
 use Rattle.fp_place.specs.Drawing.{IsCoordinate}
-use Rattle.fp_place.specs.Placed.{LaneList, Placed, no_spot, spot_at, lanes_on, DoAgree, StandOnce, IsPlacementOf}
+use Rattle.fp_place.specs.Placed.{LaneList, Placed, no_spot, lanes_on, DoAgree, StandOnce, IsPlacementOf}
 use Rattle.fp_place.specs.PlacedLaws.{entry_on}
 use Rattle.fp_place.specs.Settled.{KeepRules}
 use Rattle.fp_rows.specs.Squares.{Feasible}
 use Rattle.fp_score.specs.FirstFit.{no_segment, segment_at}
 use Rattle.fp_score.specs.Pick.{point_at}
-use Rattle.fp_coarse.specs.Nearest.{IsNearPoint}
 use Rattle.fp_coarse.specs.Picking.{CanPick, HoldAll}
 use Rattle.fp_coarse.specs.PickingLaws.{StandInRow, StandInRows, widths_of, xs_of, rows_in_order, rows_in_range}
 use Rattle.fp_coarse.specs.Targets.{IsNearTarget}
 use Rattle.fp_cert.specs.declared.shown.CellShown.{CellShown}
-use Rattle.fp_cert.specs.RowsLaws.{IsNearX, row_is}
+use Rattle.fp_cert.specs.RowsLaws.{row_is}
 use Rattle.fp_cert.specs.Trials.{row_cell}
 use Rattle.fp_cert.specs.Shown.{ShownRow, ShownTrial, rows_of}
 use Rattle.fp_cert.specs.Standing.{spots_shown, spot_by, stand_of, lanes_shown}
@@ -182,9 +180,8 @@ laid_from p targets top bottom trial placed xs best once many no_cuts no_tops ar
         (subst (λ (lanes : LaneList). StandInRows p lanes bottom shown_xs) (sym top_is) (xs_stand p targets top bottom trial best once))
 
     each : ShowsEach trial placed.spots targets
-    each die segment rank row shown there at =
-        (
-          sym (x_shown p trial (once_best p targets top bottom trial best once) die segment rank row shown there at)
+    each die segment rank row shown there at = (
+      sym (x_shown p trial (once_best p targets top bottom trial best once) die segment rank row shown there at)
           ∙ ap (λ (list : List ℤ). get_or list shown.cell.0 (pos 0)) (sym (xs_are ∙ are)) ∙ get_or-map (λ (spot : Spot). spot.x) placed.spots shown.cell.0 no_spot,
-          (best_of p targets top bottom trial die segment row best there).targets_are rank shown at,
-        )
+      (best_of p targets top bottom trial die segment row best there).targets_are rank shown at,
+    )

@@ -1,9 +1,9 @@
 -- Rows that are added one by one are the rows of all lanes; and the rows of both dies show a placement of their lanes.
-use Rattle.std.proofs.Common.{◌≡◌, ◌⊎◌, ℕ, ◌+◌, ◌^◌, ◌<◌, ◌≤◌, List, [], ◌∷◌, ◌++◌, length, map, get_or, slice_get, Some, ℤ, pos, ◌+ℤ◌, refl, sym, ap, subst, ◌∙◌, inl, inr, append_assoc, arith}
-use Rattle.std.specs.Prelude.{All, None, Option}
+use Rattle.std.proofs.Common.{◌≡◌, ◌⊎◌, ℕ, ◌+◌, ◌^◌, ◌<◌, ◌≤◌, List, [], ◌∷◌, ◌++◌, length, get_or, slice_get, Some, refl, sym, ap, subst, ◌∙◌, inl, inr, append_assoc, arith}
+use Rattle.std.specs.Prelude.{All}
 use Rattle.std.proofs.lemmas.List.{append-nil, ext_get_or, length-append, length-map, get_or-map}
 use Rattle.std.proofs.lemmas.Bool.{cases_order}
-use Rattle.std.proofs.lemmas.Option.{same_Some, slice_get_within, get_or_from_slice_get, slice_get-get_or}
+use Rattle.std.proofs.lemmas.Option.{same_Some, slice_get_within, slice_get-get_or}
 use Rattle.fp_base.specs.declared.ids.CellId.{CellId}
 use Rattle.fp_base.specs.declared.ids.Die.{Die}
 use Rattle.fp_base.specs.declared.ids.Die.TheVariants.{Top, Bottom}
@@ -14,10 +14,9 @@ use Rattle.fp_tech.specs.Plan.{segments}
 use Rattle.fp_netlist.specs.Netlist.{Netlist}
 use Rattle.fp_place.specs.Placed.{LaneList, lanes_on}
 use Rattle.fp_score.specs.FirstFit.{no_segment}
-use Rattle.fp_cert.specs.declared.shown.CellShown.{CellShown}
 use Rattle.fp_cert.specs.Shown.{ShownRow, ShownTrial, rows_of, with_row}
 use Rattle.fp_cert.specs.Standing.{lane_shown, lanes_shown}
-use Rattle.fp_cert.specs.Trials.{row_cell, row_cells, row_xs, AreRowsBest}
+use Rattle.fp_cert.specs.Trials.{AreRowsBest}
 use Rattle.fp_cert.specs.Certified.{row_duals, AreDualsShown}
 use Rattle.fp_flow.specs.Lanes.{AddsBestRows}
 use Rattle.fp_flow.specs.Rows.{IsBestRow, AddsBestRow}

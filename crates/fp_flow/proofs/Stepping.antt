@@ -1,5 +1,5 @@
 -- A trial of dies and targets is the next one after their base.
-use Rattle.std.proofs.Common.{◌≡◌, ℕ, true, false, List, length, map, Some, None, Option, Result, Ok, Err, refl, sym, ap, subst, ◌∙◌, arith}
+use Rattle.std.proofs.Common.{◌≡◌, ℕ, true, false, List, map, Some, None, Option, Ok, Err, sym, ap, subst, ◌∙◌}
 use Rattle.std.specs.Prelude.{IfSome, is_some}
 use Rattle.fp_base.specs.declared.ids.Die.{Die}
 use Rattle.fp_base.specs.declared.ids.Die.TheVariants.{Top, Bottom}
@@ -10,11 +10,10 @@ use Rattle.fp_place.specs.declared.placement.Spot.{Spot}
 use Rattle.fp_place.specs.Places.{Place, dies_of}
 use Rattle.fp_place.specs.Placed.{LaneList, Placed, place_of, places_of}
 use Rattle.fp_place.specs.Settled.{KeepRules, settled}
-use Rattle.fp_score.specs.Pick.{Lined, picked}
+use Rattle.fp_score.specs.Pick.{picked}
 use Rattle.fp_score.specs.Target.{AreTargets}
 use Rattle.fp_coarse.specs.Picking.{HoldAll}
 use Rattle.fp_coarse.specs.PickingLaws.{keeps_dies}
-use Rattle.fp_cert.specs.Certified.{IsCertified}
 use Rattle.fp_cert.specs.Endings.{has_rows}
 use Rattle.fp_cert.specs.Shown.{ShownTrial}
 use Rattle.fp_cert.specs.Standing.{lane_shown, places_shown, targets_shown, dies_shown}

@@ -28,7 +28,16 @@ pub fn place_lanes<S: Side>(
     let segments = problem.dies().segments::<S>();
     for (number, segment) in segments.iter().enumerate() {
         let lane = lanes.lane(SegId::new(number as u32));
-        place_lane(alloc, problem, S::DIE, segment, lane, targets, scratch, trial)?;
+        place_lane(
+            alloc,
+            problem,
+            S::DIE,
+            segment,
+            lane,
+            targets,
+            scratch,
+            trial,
+        )?;
     }
     Ok(())
 }

@@ -96,6 +96,7 @@ fn place_seed(
     requires agree { DoAgree seeded.placement }
     ensures { IfOk result (λ o. FlowGives problem.now limit (Ok o)) }
 {
+    let _cells = problem.cells();
     let grid = Grid::of(problem.dies());
     let mut answer = seeded.placement;
     let seed_score = score(problem, &answer);
@@ -144,7 +145,16 @@ fn run_over(
     let mut buffers = Buffers::new(alloc, problem, grid, from)?;
     let mut run = first_run(alloc, problem, grid, limit, &mut buffers.matcher, answer)?;
     let dies = settle(alloc, problem, from)?;
-    let made = go_on(alloc, problem, grid, &dies, limit, &mut buffers, &mut run, answer);
+    let made = go_on(
+        alloc,
+        problem,
+        grid,
+        &dies,
+        limit,
+        &mut buffers,
+        &mut run,
+        answer,
+    );
     drop(dies);
     drop(buffers);
     match made {

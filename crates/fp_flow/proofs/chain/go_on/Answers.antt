@@ -1,4 +1,4 @@
-use Rattle.std.proofs.Common.{◌≡◌, ◌∙◌, ◌<◌, ◌+◌, true, false, ℕ, List, Some, length, slice_get, ap, sym, subst, arith}
+use Rattle.std.proofs.Common.{◌≡◌, ◌∙◌, ◌<◌, ◌+◌, ℕ, List, Some, length, slice_get, ap, sym, subst, arith}
 use Rattle.std.specs.Prelude.{Bool}
 use Rattle.std.proofs.lemmas.Option.{slice_get-get_or}
 use Rattle.fp_cert.specs.Shown.{ShownTrial}
@@ -18,7 +18,7 @@ base_at : (c : After-index-trials-number) → slice_get c.loop-number.run.trials
 base_at c =
     ap (slice_get c.loop-number.run.trials) c.loop-number.invariant.1 ∙ ap (λ (list : List ShownTrial). slice_get list c.loop-number.number) (sym c.trials.ensures)
     ∙ slice_get-get_or c.trials.result.now c.loop-number.number c.index-trials-number.result
-      (omega (arith, ap length c.trials.ensures, c.loop-number.invariant.0.answer_is, c.loop-number.invariant.1))
+    (omega (arith, ap length c.trials.ensures, c.loop-number.invariant.0.answer_is, c.loop-number.invariant.1))
     ∙ ap Some (sym c.index-trials-number.is)
 
 pub step-requires-clause-base : goal.step-requires-clause-base

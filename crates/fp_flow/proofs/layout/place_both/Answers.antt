@@ -8,6 +8,8 @@ xs_of-requires c =
     let p = c.args.problem.now in
     let adds : AddsBoth p c.args.targets.now c.args.top.now c.args.bottom.now c.args.trial.now c.place_lanes-2.new.trial =
     record { between = c.place_lanes.new.trial; tops = c.in_ok-place_lanes.ensures; bottoms = c.in_ok-place_lanes-2.ensures } in
-    record { once = once_best p c.args.targets.now c.args.top.now c.args.bottom.now c.place_lanes-2.new.trial
-    (both_best p c.args.targets.now c.args.top.now c.args.bottom.now c.args.trial.now c.place_lanes-2.new.trial c.requires.top_lanes c.requires.bottom_lanes c.requires.no_top c.requires.no_bottom adds)
-    c.requires.once }
+    record {
+      once = once_best p c.args.targets.now c.args.top.now c.args.bottom.now c.place_lanes-2.new.trial
+          (both_best p c.args.targets.now c.args.top.now c.args.bottom.now c.args.trial.now c.place_lanes-2.new.trial c.requires.top_lanes c.requires.bottom_lanes c.requires.no_top c.requires.no_bottom adds)
+          c.requires.once;
+    }

@@ -1,4 +1,4 @@
-use Rattle.std.proofs.Common.{FitsSigned, w64, rules, ◌∙◌, ◌+ℤ◌, List, ℤ, map, subst}
+use Rattle.std.proofs.Common.{FitsSigned, w64, rules, ◌+ℤ◌, List, ℤ, map, subst}
 use Rattle.std.proofs.lemmas.Int.{to_z-of_z}
 use Rattle.fp_rows.specs.declared.RowCell.{RowCell}
 use Rattle.fp_cert.specs.RowsLaws.{cell_for}
