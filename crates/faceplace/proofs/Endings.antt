@@ -6,7 +6,7 @@ use Rattle.fp_base.specs.Files.{Files, followed_by, FrontFollows, OthersStay}
 use Rattle.fp_base.specs.FilesLaws.{rose_since}
 use Rattle.faceplace.specs.declared.status.Status.{Status}
 use Rattle.faceplace.specs.declared.status.Status.TheVariants as statuses
-use Rattle.faceplace.specs.Request.{Asked, Seed, Score}
+use Rattle.faceplace.specs.Request.{Asked, Seed, Score, Place}
 use Rattle.faceplace.specs.Report.{Cause, words_report}
 use Rattle.faceplace.specs.Outcome.{Writing, Outcome, with_writings, told}
 use Rattle.faceplace.specs.Sources.{problem_in, drawing_in}
@@ -14,6 +14,7 @@ use Rattle.faceplace.specs.Due.{IsDue}
 use Rattle.faceplace.specs.Owed.{IsOwed}
 use Rattle.faceplace.specs.Status.{code_of, Tells, Refuses}
 use Rattle.faceplace.specs.Run.{Outside, EndsAs, IsUnread}
+use Rattle.faceplace.proofs.Placings.{place_owed}
 use Rattle.faceplace.proofs.Scores.{score_owed}
 use Rattle.faceplace.proofs.Seeds.{seed_owed}
 
@@ -66,6 +67,11 @@ unwritten (Err e) asked outcome done writing rest old new err due writings other
   files = others;
   nothing = (quiet, steady);
 }))))
+
+-- where a call fails, a device's faults rose since before the calls in front of it
+pub since_earlier : {T E : Type 0} (result : Result T E) (old mid new : ℕ) → old ≤ mid → OnErr result (Rose mid new) → OnErr result (Rose old new)
+since_earlier (Ok x) old mid new later cause = tt
+since_earlier (Err e) old mid new later cause = rose_since old mid new later cause
 
 -- all files that are due were written, and the report told
 pub written : (asked : Option Asked) (report : List ℕ) (writings : List Writing) (status : Status) (old new : Outside)
@@ -154,6 +160,9 @@ due_is_owed (Some (Seed input output)) files outcome status due owed =
 due_is_owed (Some (Score input output)) files outcome status due owed =
     by_reading due.0 (problem_in input files) _ _ _ _ due.1 due.2 owed (λ p is wants.
     by_reading is.1.0 (drawing_in p output files) _ _ _ _ is.1.1 is.1.2 (wants is.0) (λ drawing one other. score_owed p drawing outcome status one other) (λ cause one other. status_of outcome _ status one other))
+    (λ cause is wants. status_of outcome _ status is wants)
+due_is_owed (Some (Place input output cert trials)) files outcome status due owed =
+    by_reading due.0 (problem_in input files) _ _ _ _ due.1 due.2 owed (λ p is wants. place_owed p output cert trials outcome status is.1 (wants is.0))
     (λ cause is wants. status_of outcome _ status is wants)
 
 -- Where no device fails, the status is the one that is owed, or memory ran out.

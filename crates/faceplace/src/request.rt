@@ -17,9 +17,15 @@ const MOST_TRIALS: u64 = 8;
 #[derive(Clone, Copy, Debug)]
 pub enum Request<'a> {
     /// `seed IN OUT`: the first-fit placement of an input file is written to an output file.
-    Seed { input: &'a str, output: &'a str },
+    Seed {
+        input: &'a str,
+        output: &'a str,
+    },
     /// `score IN OUT`: the verdict on an output file, and its score.
-    Score { input: &'a str, output: &'a str },
+    Score {
+        input: &'a str,
+        output: &'a str,
+    },
     /// `place IN OUT CERT [N]`: the best of at most N trials after the seed of an input file is written to an output file, and what shows
     /// it to a certificate.
     Place {
