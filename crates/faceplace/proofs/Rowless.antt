@@ -1,5 +1,5 @@
 -- A cell for which the choice of rows finds no segment is one of the problem, so the cells that a run names are.
-use Rattle.std.proofs.Common.{◌≡◌, ℕ, zero, suc, ◌+◌, ◌<◌, Bool, true, false, List, [], ◌∷◌, ◌++◌, length, filter, All, Option, Some, None, Result, Ok, Err, ℤ, pos, sym, ap, subst, ◌∙◌, arith}
+use Rattle.std.proofs.Common.{◌≡◌, ℕ, zero, suc, ◌+◌, ◌<◌, Bool, true, false, List, [], ◌∷◌, ◌++◌, length, All, Option, Some, None, Result, Ok, Err, ℤ, pos, refl, sym, ap, subst, ◌∙◌, arith}
 use Rattle.std.specs.Prelude.{nat_lt, int_le, if◌then◌else◌, slice_get, get_or, ◌-ℤ◌}
 use Rattle.std.specs.List.{range_with_len}
 use Rattle.std.proofs.lemmas.List.Elements.{All-cons, All-head, All-tail, All-filter, All-from_get_or}
@@ -14,7 +14,6 @@ use Rattle.fp_netlist.specs.Points.{width}
 use Rattle.fp_place.specs.Places.{die_at, same_die}
 use Rattle.fp_place.specs.Settled.{settled}
 use Rattle.fp_score.specs.Pick.{put_by, sorted_by, cells_on, widest_first, Taken, nearest_open, or_no_row, taken_by, pick_on, Lined, after_both, picked}
-use Rattle.fp_cert.specs.declared.shown.Ending.{Ending}
 use Rattle.fp_cert.specs.declared.shown.Ending.TheVariants.{Better, NotBetter}
 use Rattle.fp_cert.specs.Shown.{ShownTrial, ShownRun}
 use Rattle.fp_cert.specs.Standing.{dies_shown}

@@ -38,7 +38,8 @@ fn serve<F: Folder, S: Sink>(alloc: Global, words: &[String], folder: &mut F, ou
     }
 }
 
-/// Does what the words ask for, and answers the exit status:
+/// Does what the words ask for: seeds or places the cells of an input file, or scores an output file. What is written, the output file and
+/// then a certificate, is whole before the report is put. It answers the exit status:
 /// 0 where it is done, 1 for want of memory, 2 where the words are no request, 3 where a file to be read is not held, too long or
 /// not in its grammar, 4 where neither first fit of the input stands, 5 where the output file breaks a rule, and 6 where the folder's
 /// or the sink's faults rose.
