@@ -817,12 +817,12 @@ fn expect_place(
     rt: &impl Abort,
     alloc: Global,
     text: &str,
-    changes: &[(&str, &str)],
+    changes: &Changes,
     report: &str,
     output: &str,
     cert: (&str, &str),
 ) -> Result<(), Fail> {
-    let input = with_changes(alloc, text, changes)?;
+    let input = with_changes(alloc, text, changes.as_slice())?;
     let trial = Trial::new("place a o c", Some(input.as_str()), None);
     let done = expect_placed(rt, alloc, &trial, report, output, cert);
     drop(input);
@@ -925,11 +925,11 @@ fn places_the_contest_case_no_worse_than_its_first_trial(rt: HostRuntime) -> Res
 
 /// A placement of the small input whose device fails at such calls ends with 6 and prints nothing; its output is whole, and its certificate
 /// is this one, where that is told.
-fn expect_failed(
+fn expect_failed<'f>(
     rt: &impl Abort,
     alloc: Global,
-    folder_fails: &[u64],
-    sink_fails: &[u64],
+    folder_fails: &'f [u64],
+    sink_fails: &'f [u64],
     cert: Option<&[u8]>,
 ) -> Result<(), Fail> {
     let trial = Trial {
