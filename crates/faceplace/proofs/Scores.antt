@@ -1,5 +1,5 @@
 -- What the verdict answers, as the program's endings say it.
-use Rattle.std.proofs.Common.{◌≡◌, ℕ, suc, ◌<◌, List, [], ◌∷◌, length, find, Option, None, get_or, pos, refl, sym, ap, subst, ◌∙◌, arith}
+use Rattle.std.proofs.Common.{◌≡◌, ℕ, suc, ◌<◌, List, [], ◌∷◌, length, find, Option, None, get_or, pos, refl, sym, ap, subst, ◌∙◌, arith, inl, inr}
 use Rattle.std.specs.Option.{option_map}
 use Rattle.fp_base.specs.declared.ids.Point.{Point}
 use Rattle.std.proofs.lemmas.List.FromFn.{length-map-range_with_len, get_or-map-range_with_len}
@@ -9,6 +9,10 @@ use Rattle.fp_place.specs.Breaks.{Rule, EachOnce, OnSegments, Heights, NoOverlap
 use Rattle.fp_place.specs.Drawing.{Drawing, is_net, centre_of, places_in}
 use Rattle.fp_place.specs.Placed.{Placed, places_of, IsPlacementOf}
 use Rattle.fp_score.specs.Score.{score}
+use Rattle.fp_place.specs.BreaksLaws.{not_both}
+use Rattle.faceplace.specs.Outcome.{Outcome}
+use Rattle.faceplace.specs.Due.{ScoreDue}
+use Rattle.faceplace.specs.Owed.{ScoreOwes}
 use Rattle.faceplace.specs.Drawn.{drawn_terminals, drawn_score}
 use Rattle.faceplace.specs.Subjects.{IsSubjectOf}
 
@@ -49,3 +53,10 @@ pub scored_as_drawn : (p : Netlist) (drawing : Drawing) (placed : Placed) (total
     → pos total ≡ score p (places_of placed) placed.terminals → pos total ≡ drawn_score p drawing
 scored_as_drawn p drawing placed total drawn is scored =
     scored ∙ ap (λ places. score p places placed.terminals) drawn.cells_are ∙ ap (score p (places_in drawing (length p.cells))) (terminals_drawn p drawing placed drawn is)
+
+-- what is due for a drawing has the status that is owed
+pub score_owed : (p : Netlist) (drawing : Drawing) (outcome : Outcome) (status : ℕ) → ScoreDue p drawing outcome → ScoreOwes p drawing status → outcome.status ≡ status
+score_owed p drawing outcome status (inl due) (inl owed) = ap (λ (o : Outcome). o.status) due.is ∙ sym owed.1
+score_owed p drawing outcome status (inl due) (inr owed) = absurd (owed.0 due.legal)
+score_owed p drawing outcome status (inr due) (inl owed) = absurd (not_both p drawing due.rule due.subject owed.0 due.breaks)
+score_owed p drawing outcome status (inr due) (inr owed) = ap (λ (o : Outcome). o.status) due.is ∙ sym owed.1

@@ -1,12 +1,12 @@
 -- What the seed's crate answers, as the program's endings say it.
-use Rattle.std.proofs.Common.{◌≡◌, ℕ, suc, ◌+◌, ◌<◌, Bool, true, cond, List, [], ◌∷◌, length, Option, Some, None, Ok, Err, refl, sym, ap, subst, ◌∙◌, arith}
+use Rattle.std.proofs.Common.{◌≡◌, ℕ, suc, ◌+◌, ◌<◌, Bool, cond, List, [], ◌∷◌, length, Option, Some, None, Ok, Err, refl, sym, ap, subst, ◌∙◌, arith, inl, inr}
 use Rattle.std.specs.Prelude.{is_some, slice_get}
 use Rattle.std.proofs.lemmas.Option.{get_or_from_slice_get}
 use Rattle.fp_base.specs.declared.ids.Point.{Point}
 use Rattle.fp_base.specs.declared.ids.Die.{Die}
 use Rattle.fp_base.specs.declared.ids.Die.TheVariants.{Top, Bottom}
 use Rattle.fp_tech.specs.Plan.{Plan}
-use Rattle.fp_tech.specs.Slots.{Slots, IsGrid, slot_count}
+use Rattle.fp_tech.specs.Slots.{Slots, slot_count}
 use Rattle.fp_tech.specs.SlotsLaws.{grid_once}
 use Rattle.fp_netlist.specs.Netlist.{Netlist}
 use Rattle.fp_place.specs.Cut.{cut, cut_below, is_cut}
@@ -22,43 +22,42 @@ use Rattle.fp_seed.specs.declared.seeding.Seeded.{Seeded}
 use Rattle.fp_seed.specs.declared.seeding.SeedFault.TheVariants as faults
 use Rattle.fp_seed.specs.Seeded.{SeedGives, IsSeated}
 use Rattle.fp_seed.specs.SeededLaws.{not_both}
-use Rattle.fp_base.specs.Files.{Files}
 use Rattle.faceplace.specs.Report.{seed_report}
-use Rattle.faceplace.specs.Outcome.{InputSays, SeedStands}
+use Rattle.faceplace.specs.Outcome.{Outcome}
+use Rattle.faceplace.specs.Due.{SeedStands, SeedDue}
+use Rattle.faceplace.specs.Owed.{SeedOwes}
 use Rattle.faceplace.specs.Seeding.{Seeding, Stopping, IsSeeding, IsStopping, seed_text, IsSeedReport, IsLineOf}
 
 -- a seed stands, or both first fits stop
-pub exclusive : (s : Seeding) (t : Stopping) → s.problem ≡ t.problem → IsSeeding s → IsStopping t → ⊥
-exclusive s t one is_s is_t =
-    let grids : IsGrid t.problem.plan.frame t.problem.plan.terminal s.grid = subst (λ (p : Netlist). IsGrid p.plan.frame p.plan.terminal s.grid) one is_s.grid_is in
-    let same : t.grid ≡ s.grid = grid_once t.problem.plan.frame t.problem.plan.terminal t.grid s.grid is_t.grid_is grids in
-    not_both s.problem (slot_count s.grid) s.first s.seats is_s.seed_is (record {
+pub exclusive : (p : Netlist) (s : Seeding) (t : Stopping) → IsSeeding p s → IsStopping p t → ⊥
+exclusive p s t is_s is_t =
+    let same : t.grid ≡ s.grid = grid_once p.plan.frame p.plan.terminal t.grid s.grid is_t.grid_is is_s.grid_is in
+    not_both p (slot_count s.grid) s.first s.seats is_s.seed_is (record {
       top_first = t.top_first;
       bottom_first = t.bottom_first;
       top_stops = at Top t.top_first same is_t.top_stops;
       bottom_stops = at Bottom t.bottom_first same is_t.bottom_stops;
     })
   where
-    at : (first : Die) (stop : Stop) → t.grid ≡ s.grid → first_fit t.problem (slot_count t.grid) first ≡ Err stop → first_fit s.problem (slot_count s.grid) first ≡ Err stop
-    at first stop same e = subst (λ (p : Netlist). first_fit p (slot_count s.grid) first ≡ Err stop) (sym one)
-        (subst (λ (g : Slots). first_fit t.problem (slot_count g) first ≡ Err stop) same e)
+    at : (first : Die) (stop : Stop) → t.grid ≡ s.grid → first_fit p (slot_count t.grid) first ≡ Err stop → first_fit p (slot_count s.grid) first ≡ Err stop
+    at first stop same e = subst (λ (g : Slots). first_fit p (slot_count g) first ≡ Err stop) same e
 
 -- the seed that was found
 abbrev pub seeding : (p : Netlist) (found : Seeded) → SeedGives p (Ok found) → Seeding
-seeding p found gives = record { problem = p; grid = gives.0; first = found.first; seats = gives.2.0 }
+seeding p found gives = record { grid = gives.0; first = found.first; seats = gives.2.0 }
 
-pub is_seeding : (p : Netlist) (found : Seeded) (gives : SeedGives p (Ok found)) → IsSeeding (seeding p found gives)
+pub is_seeding : (p : Netlist) (found : Seeded) (gives : SeedGives p (Ok found)) → IsSeeding p (seeding p found gives)
 is_seeding p found gives = record { grid_is = gives.1; seed_is = gives.2.1 }
 
 -- why there is none
 abbrev pub stopping : (p : Netlist) (top bottom : Stop) → SeedGives p (Err (faults.Unfit top bottom)) → Stopping
-stopping p top bottom gives = record { problem = p; grid = gives.0; top_first = top; bottom_first = bottom }
+stopping p top bottom gives = record { grid = gives.0; top_first = top; bottom_first = bottom }
 
-pub is_stopping : (p : Netlist) (top bottom : Stop) (gives : SeedGives p (Err (faults.Unfit top bottom))) → IsStopping (stopping p top bottom gives)
+pub is_stopping : (p : Netlist) (top bottom : Stop) (gives : SeedGives p (Err (faults.Unfit top bottom))) → IsStopping p (stopping p top bottom gives)
 is_stopping p top bottom gives = record { grid_is = gives.1; top_stops = gives.2; bottom_stops = gives.3 }
 
 -- the text that is written is the seed's
-pub text_is : (p : Netlist) (found : Seeded) (gives : SeedGives p (Ok found)) → out_text p (drawn_of found.placement) ≡ seed_text (seeding p found gives)
+pub text_is : (p : Netlist) (found : Seeded) (gives : SeedGives p (Ok found)) → out_text p (drawn_of found.placement) ≡ seed_text p (seeding p found gives)
 text_is p found gives =
     let seated : IsSeated p gives.0 gives.2.0 found.placement = gives.2.2 in
     ap (λ places. out_text p (drawing_of places found.placement.terminals)) seated.places_are
@@ -69,7 +68,7 @@ dies_are plan [] = refl
 dies_are plan (seat ∷ seats) = ap (λ dies. seat.die ∷ dies) (dies_are plan seats)
 
 -- the line that is told is the seed's
-pub line_is : (p : Netlist) (found : Seeded) (gives : SeedGives p (Ok found)) (line : List ℕ) → IsLineOf p found.first found.placement line → IsSeedReport (seeding p found gives) line
+pub line_is : (p : Netlist) (found : Seeded) (gives : SeedGives p (Ok found)) (line : List ℕ) → IsLineOf p found.first found.placement line → IsSeedReport p (seeding p found gives) line
 line_is p found gives line (total, grid, scored, is_grid, is) =
     let seats : List Seat = gives.2.0 in
     let seated : IsSeated p gives.0 seats found.placement = gives.2.2 in
@@ -94,14 +93,19 @@ terminal_cut p placed net centre b on_cuts below there is =
     is ∙ ap is_some (sym (get_or_from_slice_get placed.terminals net centre None there)) ∙ on_cuts net below
 
 -- what is due where a seed was found
-pub stands_due : (p : Netlist) (found : Seeded) (input output line : List ℕ) (held : Option Files) → InputSays true input held p → SeedGives p (Ok found)
-    → IsLineOf p found.first found.placement line
-    → SeedStands true input output held (record { status = 0; report = line; writings = record { name = output; text = out_text p (drawn_of found.placement) } ∷ [] })
-stands_due p found input output line held says gives line_of = record {
+pub stands_due : (p : Netlist) (found : Seeded) (output line : List ℕ) → SeedGives p (Ok found) → IsLineOf p found.first found.placement line
+    → SeedStands p output (record { status = 0; report = line; writings = record { name = output; text = out_text p (drawn_of found.placement) } ∷ [] })
+stands_due p found output line gives line_of = record {
   seeding = seeding p found gives;
-  says = says;
   stands = is_seeding p found gives;
   line = line;
   reports = line_is p found gives line line_of;
   is = ap (λ text. record { status = 0; report = line; writings = record { name = output; text = text } ∷ [] }) (text_is p found gives);
 }
+
+-- what is due for a problem has the status that is owed
+pub seed_owed : (p : Netlist) (output : List ℕ) (outcome : Outcome) (status : ℕ) → SeedDue p output outcome → SeedOwes p status → outcome.status ≡ status
+seed_owed p output outcome status (inl due) (inl owed) = ap (λ (o : Outcome). o.status) due.is ∙ sym owed.2
+seed_owed p output outcome status (inl due) (inr owed) = absurd (exclusive p due.seeding owed.0 due.stands owed.1)
+seed_owed p output outcome status (inr due) (inl owed) = absurd (exclusive p owed.0 due.stopping owed.1 due.stops)
+seed_owed p output outcome status (inr due) (inr owed) = ap (λ (o : Outcome). o.status) due.is ∙ sym owed.2

@@ -4,9 +4,13 @@ pub mod Report
 pub mod Causes
 pub mod Status
 pub mod Subjects
+pub mod Sources
 pub mod Input
 pub mod Seeding
 pub mod Drawn
+pub mod Trials
 pub mod Outcome
+pub mod Due
+pub mod Owed
 pub mod Judging
 pub mod Run

@@ -1,51 +1,20 @@
 -- The texts that the program prints.
-use Rattle.std.specs.Prelude.{◌≡◌, ℕ, ◌^◌, ◌<◌, ◌≤◌, List, [], ◌++◌, length, Option, Some, None, unwrap_or, slice_get, codes, decimal}
+use Rattle.std.specs.Prelude.{ℕ, List, [], ◌++◌, unwrap_or, slice_get, codes, decimal}
 use Rattle.fp_base.specs.declared.ids.Die.{Die}
 use Rattle.fp_base.specs.declared.ids.Die.TheVariants.{Top, Bottom}
 use Rattle.fp_text.specs.declared.fault.Kind.{Kind}
 use Rattle.fp_text.specs.declared.fault.Kind.TheVariants.{Ended, Word, Number, Name, Twice, Unknown, Range, Rows, Limit, Trailing}
-use Rattle.fp_text.specs.Reading.{fault}
 use Rattle.fp_netlist.specs.Netlist.{Netlist, cell_names}
 use Rattle.fp_place.specs.declared.judge.Subject.{Subject}
 use Rattle.fp_place.specs.declared.judge.Subject.TheVariants.{Cell, Net, Side}
 use Rattle.fp_score.specs.declared.stop.Stop.{Stop}
 use Rattle.fp_score.specs.declared.stop.Stop.TheVariants.{NoRoom, NoSlots}
-use Rattle.fp_contest_in.specs.Text.{ProblemText, netlist_of}
-use Rattle.fp_contest_in.specs.Grammar.{Reads}
-use Rattle.fp_contest_in.specs.Statements.{problem_of}
 
--- the greatest length of an input file
-abbrev pub most_input : ℕ
-most_input = 2 ^ 28
-
--- why an input file is refused: the name is not held, it holds too many bytes, or its first fault
+-- why a file is refused: the name is not held, it holds too many bytes, or its first fault
 pub data Cause : Type 0 where
   IsMissing : Cause
   IsLong : Cause
   IsWrong : ℕ → Kind → Cause
-
--- the cause is that of what the name holds; bytes with a first fault say no problem
-abbrev pub HasCause : Option (List ℕ) → Cause → Type 0
-HasCause None IsMissing = Unit {0}
-HasCause None IsLong = ⊥
-HasCause None (IsWrong at kind) = ⊥
-HasCause (Some bytes) IsMissing = ⊥
-HasCause (Some bytes) IsLong = most_input < length bytes
-HasCause (Some bytes) (IsWrong at kind) = (length bytes ≤ most_input) × (problem_of bytes ≡ fault at kind) × ((text : ProblemText) → Reads bytes text → ⊥)
-
--- the bytes are an input file that says this problem
-abbrev pub Says : List ℕ → Netlist → Type 0
-Says bytes p = (text : ProblemText) × Reads bytes text × (p ≡ netlist_of text)
-
--- what a name holds is an input file that says this problem
-abbrev pub HoldsProblem : Option (List ℕ) → Netlist → Type 0
-HoldsProblem None p = ⊥
-HoldsProblem (Some bytes) p = (length bytes ≤ most_input) × Says bytes p
-
--- and no other
-abbrev pub HoldsOnly : Option (List ℕ) → Netlist → Type 0
-HoldsOnly None p = ⊥
-HoldsOnly (Some bytes) p = (length bytes ≤ most_input) × Says bytes p × ((other : Netlist) → Says bytes other → other ≡ p)
 
 abbrev pub kind_text : Kind → List ℕ
 kind_text Ended = codes "ended"
@@ -63,11 +32,15 @@ kind_text Trailing = codes "trailing"
 abbrev pub words_report : List ℕ
 words_report = codes "words\n"
 
--- `input NAME AT KIND`; a file that is too long is told at its limit
-abbrev pub input_report : List ℕ → Cause → List ℕ
-input_report name IsMissing = codes "input " ++ name ++ codes " 0 missing\n"
-input_report name IsLong = codes "input " ++ name ++ codes " 268435456 long\n"
-input_report name (IsWrong at kind) = codes "input " ++ name ++ codes " " ++ decimal at ++ codes " " ++ kind_text kind ++ codes "\n"
+-- `input NAME AT WORD`
+abbrev pub fault_line : List ℕ → ℕ → List ℕ → List ℕ
+fault_line name at word = codes "input " ++ name ++ codes " " ++ decimal at ++ codes " " ++ word ++ codes "\n"
+
+-- why a file of a name, which may have so many bytes, is refused; one that is too long is told at that limit
+abbrev pub input_report : ℕ → List ℕ → Cause → List ℕ
+input_report limit name IsMissing = fault_line name 0 (codes "missing")
+input_report limit name IsLong = fault_line name limit (codes "long")
+input_report limit name (IsWrong at kind) = fault_line name at (kind_text kind)
 
 abbrev pub die_text : Die → List ℕ
 die_text Top = codes "top"

@@ -1,22 +1,54 @@
 -- What the words of the command line ask for.
-use Rattle.std.specs.Prelude.{ℕ, if◌then◌else◌, List, [], ◌∷◌, Option, Some, None, codes}
+use Rattle.std.specs.Prelude.{ℕ, Bool, not, ◌&&◌, nat_eq, if◌then◌else◌, List, [], ◌∷◌, Option, Some, None, Result, Ok, Err, codes}
 use Rattle.std.specs.Str.{bytes_eq}
+use Rattle.fp_text.specs.Numbers.{number_of}
+use Rattle.fp_text.specs.declared.numbers.NumberFault.{NumberFault}
 
--- a request, with the names of the input and of the output file: that the output file be written, or that it be scored
+-- a request, with the names of the input and of the output file: that the output file be written, or that it be scored; or that the cells
+-- be placed in at most so many trials beside the first one, and the certificate be written too, to the third name
 pub data Asked : Type 0 where
   Seed : List ℕ → List ℕ → Asked
   Score : List ℕ → List ℕ → Asked
+  Place : List ℕ → List ℕ → List ℕ → ℕ → Asked
 
--- a command and two names that differ
-abbrev pub asks_of : List ℕ → List ℕ → List ℕ → Option Asked
-asks_of command first second =
-    if bytes_eq first second then None else if bytes_eq command (codes "seed") then Some (Seed first second)
-    else if bytes_eq command (codes "score") then Some (Score first second) else None
+-- two words, names that differ, make a request
+abbrev pub two_names : (List ℕ → List ℕ → Asked) → List (List ℕ) → Option Asked
+two_names make [] = None
+two_names make (first ∷ []) = None
+two_names make (first ∷ second ∷ []) = if bytes_eq first second then None else Some (make first second)
+two_names make (first ∷ second ∷ third ∷ others) = None
 
--- `seed IN OUT` or `score IN OUT`, with two names that differ; other words ask for nothing
+-- no two of three names are the same
+abbrev pub are_apart : List ℕ → List ℕ → List ℕ → Bool
+are_apart first second third = not (bytes_eq first second) && not (bytes_eq first third) && not (bytes_eq second third)
+
+-- a number of trials: at least one
+abbrev pub some_trials : Result ℕ NumberFault → Option ℕ
+some_trials (Ok trials) = if nat_eq trials 0 then None else Some trials
+some_trials (Err fault) = None
+
+-- three names that are apart, with a number of trials, ask for a placement
+abbrev pub three_names : List ℕ → List ℕ → List ℕ → Option ℕ → Option Asked
+three_names input output cert None = None
+three_names input output cert (Some trials) = if are_apart input output cert then Some (Place input output cert trials) else None
+
+-- three words, and 3 trials; or a fourth word, that is how many, from 1 to 8
+abbrev pub asks_placing : List (List ℕ) → Option Asked
+asks_placing [] = None
+asks_placing (input ∷ []) = None
+asks_placing (input ∷ output ∷ []) = None
+asks_placing (input ∷ output ∷ cert ∷ []) = three_names input output cert (Some 3)
+asks_placing (input ∷ output ∷ cert ∷ trials ∷ []) = three_names input output cert (some_trials (number_of 8 trials))
+asks_placing (input ∷ output ∷ cert ∷ trials ∷ other ∷ others) = None
+
+-- what a command asks for, by the words that follow it
+abbrev pub asks_for : List ℕ → List (List ℕ) → Option Asked
+asks_for command words =
+    if bytes_eq command (codes "seed") then two_names Seed words
+    else if bytes_eq command (codes "score") then two_names Score words
+    else if bytes_eq command (codes "place") then asks_placing words else None
+
+-- `seed IN OUT`, `score IN OUT`, `place IN OUT CERT` or `place IN OUT CERT N`, with names that differ; other words ask for nothing
 abbrev pub asks : List (List ℕ) → Option Asked
 asks [] = None
-asks (command ∷ []) = None
-asks (command ∷ first ∷ []) = None
-asks (command ∷ first ∷ second ∷ []) = asks_of command first second
-asks (command ∷ first ∷ second ∷ third ∷ others) = None
+asks (command ∷ words) = asks_for command words

@@ -1,10 +1,13 @@
 -- How a run ends: what the files and the output were before the call and are after it.
-use Rattle.std.specs.Prelude.{◌≡◌, ◌⊎◌, ℕ, true, List, [], ◌∷◌, Option, Some, IsSome}
+use Rattle.std.specs.Prelude.{◌≡◌, ◌⊎◌, ℕ, List, ◌∷◌, ◌++◌, Option, Some, None, Result, Ok}
 use Rattle.fp_base.specs.Faults.{Rose}
-use Rattle.fp_base.specs.Files.{Files, OthersStay, followed_by, FrontFollows}
-use Rattle.fp_netlist.specs.Netlist.{Netlist}
-use Rattle.faceplace.specs.Request.{Asked}
-use Rattle.faceplace.specs.Outcome.{Writing, Outcome, with_writings, InputSays, IsDueAlone}
+use Rattle.fp_base.specs.Files.{Files, WhereTold, OthersStay, followed_by, FrontFollows}
+use Rattle.fp_netlist.specs.Netlist.{Netlist, IsSound}
+use Rattle.faceplace.specs.Request.{Asked, Seed, Score, Place}
+use Rattle.faceplace.specs.Report.{Cause}
+use Rattle.faceplace.specs.Outcome.{Writing, Outcome, with_writings}
+use Rattle.faceplace.specs.Sources.{AfterFile, problem_in}
+use Rattle.faceplace.specs.Due.{IsDue}
 
 -- the outside at one moment, as far as it is told: the held files, the bytes written so far, and the counts of faults
 pub record Outside : Type 0 where
@@ -26,7 +29,7 @@ NothingPut old new = (new.written ≡ old.written) × (new.sink_faults ≡ old.s
 -- what is due was done: its files are written, its report was put, and the status is its own
 pub record IsDone (asked : Option Asked) (status : ℕ) (old new : Outside) : Type 0 where
   pub outcome : Outcome
-  pub due : IsDueAlone asked old.held outcome
+  pub due : IsDue asked old.held outcome
   pub status_is : status ≡ outcome.status
   pub files : new.held ≡ with_writings outcome.writings old.held
   pub reports : new.written ≡ followed_by outcome.report old.written
@@ -37,29 +40,43 @@ pub record IsWanting (status : ℕ) (old new : Outside) : Type 0 where
   pub files : SameFiles old new
   pub nothing : NothingPut old new
 
--- the folder failed at reading: nothing was done
+-- the file of this name is the first that was not read, or what another says leads to it
+abbrev pub UpTo : {A : Type 0} → Option Files → List ℕ → (Files → Result A Cause) → (A → Type 0) → List ℕ → Type 0
+UpTo held name reading next unread = (unread ≡ name) ⊎ AfterFile held reading next (λ cause. ⊥)
+
+-- the file of this name is the first of the request's files, in the order of the words, that was not read; those before it say something
+abbrev pub IsUnread : Option Asked → Option Files → List ℕ → Type 0
+IsUnread None held unread = ⊥
+IsUnread (Some (Seed input output)) held unread = UpTo held input (problem_in input) (λ p. ⊥) unread
+IsUnread (Some (Score input output)) held unread = UpTo held input (problem_in input) (λ p. unread ≡ output) unread
+IsUnread (Some (Place input output cert trials)) held unread = UpTo held input (problem_in input) (λ p. ⊥) unread
+
+-- the folder failed at reading a file: nothing was done. A count of faults is the folder's and names no file, so that this one failed is not told by it.
 pub record FailsAtReading (asked : Option Asked) (status : ℕ) (old new : Outside) : Type 0 where
-  pub request : IsSome asked
+  pub name : List ℕ
+  pub unread : IsUnread asked old.held name
   pub status_is : status ≡ 6
   pub rose : Rose old.folder_faults new.folder_faults
   pub files : SameFiles old new
   pub nothing : NothingPut old new
 
--- the folder failed at writing the file that is due: the others stay, and nothing was put
+-- the folder failed at writing a file that is due: those before it are written, this one may hold anything, the others stay, and nothing was put
 pub record FailsAtWriting (asked : Option Asked) (status : ℕ) (old new : Outside) : Type 0 where
   pub outcome : Outcome
-  pub due : IsDueAlone asked old.held outcome
+  pub due : IsDue asked old.held outcome
+  pub done : List Writing
   pub writing : Writing
-  pub one : outcome.writings ≡ writing ∷ []
+  pub rest : List Writing
+  pub writings : outcome.writings ≡ done ++ writing ∷ rest
   pub status_is : status ≡ 6
   pub rose : Rose old.folder_faults new.folder_faults
-  pub files : OthersStay writing.name old.held new.held
+  pub files : OthersStay writing.name (with_writings done old.held) new.held
   pub nothing : NothingPut old new
 
 -- the sink failed at the report that is due: the files are written, and a front of the report was put
 pub record FailsAtReport (asked : Option Asked) (status : ℕ) (old new : Outside) : Type 0 where
   pub outcome : Outcome
-  pub due : IsDueAlone asked old.held outcome
+  pub due : IsDue asked old.held outcome
   pub status_is : status ≡ 6
   pub files : new.held ≡ with_writings outcome.writings old.held
   pub rose : Rose old.sink_faults new.sink_faults
@@ -70,6 +87,11 @@ abbrev pub EndsAs : Option Asked → ℕ → Outside → Outside → Type 0
 EndsAs asked status old new = IsDone asked status old new ⊎ IsWanting status old new
     ⊎ FailsAtReading asked status old new ⊎ FailsAtWriting asked status old new ⊎ FailsAtReport asked status old new
 
+-- the input file of this name says this problem
+pub record InputSays (p : Netlist) (input : List ℕ) (held : Option Files) : Type 0 where
+  pub sound : IsSound p
+  pub says : WhereTold held (λ files. Ok p ≡ problem_in input files)
+
 -- a run ends with this status from where it has read the problem of its input file, whatever that file's name
 abbrev pub EndsForProblem : Netlist → (List ℕ → Asked) → ℕ → Outside → Outside → Type 0
-EndsForProblem p asked status old new = (input : List ℕ) → InputSays true input old.held p → EndsAs (Some (asked input)) status old new
+EndsForProblem p asked status old new = (input : List ℕ) → InputSays p input old.held → EndsAs (Some (asked input)) status old new

@@ -1,8 +1,10 @@
 //! Reading the files of a request.
 
-ghost use Rattle.std.specs.Prelude.{◌≡◌, ◌≤◌, IsErrOf};
+ghost use Rattle.std.specs.Prelude.{◌≡◌, ◌≤◌, ◌^◌, IfOk, IsErrOf};
 ghost use Rattle.fp_base.specs.Faults.{Rose};
-ghost use Rattle.faceplace.specs.Input.{GivesFile, GivesInput, GivesOutput, stop_of};
+ghost use Rattle.fp_netlist.specs.Netlist.{IsSound};
+ghost use Rattle.faceplace.specs.Sources.{problem_in, drawing_in};
+ghost use Rattle.faceplace.specs.Input.{bytes_in, stop_of, GivesRead};
 
 use crate::report::Cause;
 use fp_base::Folder;
@@ -13,8 +15,8 @@ use fp_place::Drawn;
 use fp_text::{TextFault, WholeFault, read_whole};
 use std::alloc::Global;
 
-/// The greatest length of a file that is read, in bytes.
-const MOST_BYTES: u64 = 1 << 28;
+/// The greatest length of an input or an output file, in bytes.
+pub const MOST_INPUT: u64 = 1 << 28;
 
 /// Why a file gives nothing.
 #[derive(Clone, Copy, Debug, PartialEq, Eq)]
@@ -27,14 +29,20 @@ pub enum Stop {
     Refused(Cause),
 }
 
-/// The bytes of a file.
-fn read_file<F: Folder>(alloc: Global, folder: &mut F, name: &str) -> Result<Vec<u8>, Stop>
-    ensures gives { GivesFile (F.held folder.old) name.now result }
+/// The bytes of a file, of which there may be so many.
+fn read_file<F: Folder>(
+    alloc: Global,
+    folder: &mut F,
+    name: &str,
+    limit: u64,
+) -> Result<Vec<u8>, Stop>
+    requires { limit ≤ 2 ^ 30 }
+    ensures gives { GivesRead (λ v. v.items) (F.held folder.old) (bytes_in limit name.now) result }
     ensures device { IsErrOf result Stop.Device → Rose (F.faults folder.old) (F.faults folder.new) }
     ensures held { F.held folder.new ≡ F.held folder.old }
     ensures later { F.faults folder.old ≤ F.faults folder.new }
 {
-    match read_whole(alloc, folder, name, MOST_BYTES) {
+    match read_whole(alloc, folder, name, limit) {
         Ok(bytes) => Ok(bytes),
         Err(WholeFault::Missing) => Err(Stop::Refused(Cause::Missing)),
         Err(WholeFault::Long) => Err(Stop::Refused(Cause::Long)),
@@ -55,14 +63,18 @@ fn stop_of(fault: TextFault) -> Stop
 
 /// The problem of an input file.
 pub fn read_input<F: Folder>(alloc: Global, folder: &mut F, name: &str) -> Result<Problem, Stop>
-    ensures gives { GivesInput (F.held folder.old) name.now result }
+    ensures gives { GivesRead (λ p. p) (F.held folder.old) (problem_in name.now) result }
+    ensures sound { IfOk result IsSound }
     ensures device { IsErrOf result Stop.Device → Rose (F.faults folder.old) (F.faults folder.new) }
     ensures held { F.held folder.new ≡ F.held folder.old }
     ensures later { F.faults folder.old ≤ F.faults folder.new }
 {
-    let bytes = read_file(alloc, folder, name)?;
+    let bytes = read_file(alloc, folder, name, MOST_INPUT)?;
     match read_problem(alloc, &bytes) {
-        Ok(problem) => Ok(problem),
+        Ok(problem) => {
+            let _cells = problem.cells();
+            Ok(problem)
+        }
         Err(fault) => Err(stop_of(fault)),
     }
 }
@@ -74,12 +86,12 @@ pub fn read_output<F: Folder>(
     problem: &Problem,
     name: &str,
 ) -> Result<Drawn, Stop>
-    ensures gives { GivesOutput problem.now (F.held folder.old) name.now result }
+    ensures gives { GivesRead (λ d. d) (F.held folder.old) (drawing_in problem.now name.now) result }
     ensures device { IsErrOf result Stop.Device → Rose (F.faults folder.old) (F.faults folder.new) }
     ensures held { F.held folder.new ≡ F.held folder.old }
     ensures later { F.faults folder.old ≤ F.faults folder.new }
 {
-    let bytes = read_file(alloc, folder, name)?;
+    let bytes = read_file(alloc, folder, name, MOST_INPUT)?;
     match read_out(alloc, problem, &bytes) {
         Ok(drawn) => Ok(drawn),
         Err(fault) => Err(stop_of(fault)),

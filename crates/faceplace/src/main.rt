@@ -1,8 +1,9 @@
-//! The program `faceplace`: `seed IN OUT` writes the first-fit placement of a contest input, `score IN OUT` judges and scores an output
-//! file.
+//! The program `faceplace`: `seed IN OUT` writes the first-fit placement of a contest input, `place IN OUT CERT [N]` writes the best of the
+//! trials that follow it with a certificate of them, and `score IN OUT` judges and scores an output file.
 #![tactic(auto)]
 
 mod input;
+mod place;
 mod refusal;
 mod report;
 mod request;
@@ -10,6 +11,7 @@ mod run;
 mod score;
 mod seed;
 mod status;
+mod trials;
 
 use fp_base::{DirFolder, StdoutSink};
 pub use run::run;

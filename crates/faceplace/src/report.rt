@@ -1,8 +1,8 @@
 //! The lines that the program prints.
 
-ghost use Rattle.std.specs.Prelude.{◌≡◌, ◌++◌, IfOk, string_bytes, codes, decimal};
+ghost use Rattle.std.specs.Prelude.{◌≡◌, IfOk, string_bytes};
 ghost use Rattle.fp_score.specs.FirstFit.{IsStopOf};
-ghost use Rattle.faceplace.specs.Report.{die_text, kind_text, input_report, seed_report, stop_text, unfit_report, score_report, subject_text, broken_report};
+ghost use Rattle.faceplace.specs.Report.{die_text, kind_text, fault_line, input_report, seed_report, stop_text, unfit_report, score_report, subject_text, broken_report};
 ghost use Rattle.faceplace.specs.Subjects.{IsSubjectOf};
 ghost use Rattle.faceplace.specs.Causes.{cause_of};
 
@@ -13,12 +13,12 @@ use fp_score::Stop;
 use fp_text::Kind;
 use std::alloc::{AllocError, Global};
 
-/// Why an input file is refused.
+/// Why a file is refused.
 #[derive(Clone, Copy, Debug, PartialEq, Eq)]
 pub enum Cause {
     /// The folder does not hold the name.
     Missing,
-    /// The name holds more bytes than an input file may have.
+    /// The name holds more bytes than the file may have.
     Long,
     /// The bytes are not in the grammar: their first fault.
     Wrong { at: u64, kind: Kind },
@@ -42,9 +42,9 @@ fn kind_word(kind: Kind) -> &'static str
     }
 }
 
-fn fault_report(alloc: Global, name: &str, at: u64, word: &str) -> Result<String, AllocError>
-    ensures { IfOk result (λ report. string_bytes report
-        ≡ codes "input " ++ name.now ++ codes " " ++ decimal at ++ codes " " ++ word.now ++ codes "\n") }
+/// `input NAME AT WORD`.
+fn fault_line(alloc: Global, name: &str, at: u64, word: &str) -> Result<String, AllocError>
+    ensures { IfOk result (λ report. string_bytes report ≡ fault_line name.now at word.now) }
 {
     let mut report = format!(in alloc; "input {name} ")?;
     write!(report, "{at} ")?;
@@ -53,14 +53,19 @@ fn fault_report(alloc: Global, name: &str, at: u64, word: &str) -> Result<String
     Ok(report)
 }
 
-/// `input NAME AT KIND`, for a file that is refused.
-pub fn input_report(alloc: Global, name: &str, cause: Cause) -> Result<String, AllocError>
-    ensures { IfOk result (λ report. string_bytes report ≡ input_report name.now (cause_of cause)) }
+/// Why a file is refused, which may have so many bytes; one that is too long is told at that limit.
+pub fn input_report(
+    alloc: Global,
+    limit: u64,
+    name: &str,
+    cause: Cause,
+) -> Result<String, AllocError>
+    ensures { IfOk result (λ report. string_bytes report ≡ input_report limit name.now (cause_of cause)) }
 {
     match cause {
-        Cause::Missing => format!(in alloc; "input {name} 0 missing\n"),
-        Cause::Long => format!(in alloc; "input {name} 268435456 long\n"),
-        Cause::Wrong { at, kind } => fault_report(alloc, name, at, kind_word(kind)),
+        Cause::Missing => fault_line(alloc, name, 0, "missing"),
+        Cause::Long => fault_line(alloc, name, limit, "long"),
+        Cause::Wrong { at, kind } => fault_line(alloc, name, at, kind_word(kind)),
     }
 }
 

@@ -4,10 +4,12 @@ ghost use Rattle.std.specs.Prelude.{◌≡◌, ◌⊎◌, ◌≤◌, ℕ, List, 
 ghost use Rattle.fp_base.specs.Faults.{Rose};
 ghost use Rattle.fp_base.specs.Files.{Files};
 ghost use Rattle.faceplace.specs.Request.{asks};
-ghost use Rattle.faceplace.specs.Outcome.{Outcome, IsDue};
+ghost use Rattle.faceplace.specs.Sources.{ReadingsAgree};
+ghost use Rattle.faceplace.specs.Owed.{IsOwed};
 ghost use Rattle.faceplace.specs.Status.{code_of};
 ghost use Rattle.faceplace.specs.Run.{outside, EndsAs};
 
+use crate::place::run_place;
 use crate::request::{Request, request_of};
 use crate::score::run_score;
 use crate::seed::run_seed;
@@ -25,10 +27,19 @@ fn serve<F: Folder, S: Sink>(alloc: Global, words: &[String], folder: &mut F, ou
         None => tell(out, b"words\n", Status::BadWords),
         Some(Request::Seed { input, output }) => run_seed(alloc, input, output, folder, out),
         Some(Request::Score { input, output }) => run_score(alloc, input, output, folder, out),
+        Some(
+            Request::Place {
+                input,
+                output,
+                cert,
+                trials,
+            },
+        ) => run_place(alloc, input, output, cert, trials, folder, out),
     }
 }
 
-/// Does what the words ask for, and answers the exit status:
+/// Does what the words ask for: seeds or places the cells of an input file, or scores an output file. What is written, the output file and
+/// then a certificate, is whole before the report is put. It answers the exit status:
 /// 0 where it is done, 1 for want of memory, 2 where the words are no request, 3 where a file to be read is not held, too long or
 /// not in its grammar, 4 where neither first fit of the input stands, 5 where the output file breaks a rule, and 6 where the folder's
 /// or the sink's faults rose.
@@ -36,11 +47,13 @@ pub fn run<F: Folder, S: Sink>(alloc: Global, words: &[String], folder: &mut F, 
     ensures ends { EndsAs (asks (map string_bytes words.now)) result
         (outside (F.held folder.old) (S.written out.old) (F.faults folder.old) (S.faults out.old))
         (outside (F.held folder.new) (S.written out.new) (F.faults folder.new) (S.faults out.new)) }
-    // Where the folder tells its files and no device fails, the status is that of what the words and the files make due, or memory ran out.
-    ensures complete { (files : Files) (outcome : Outcome)
-        → F.held folder.old ≡ Some files → IsDue (asks (map string_bytes words.now)) (Some files) outcome
+    // Where the folder tells its files and no device fails, the status is the one that the words and the files owe, or memory ran out.
+    ensures complete { (files : Files) (status : ℕ)
+        → F.held folder.old ≡ Some files → IsOwed (asks (map string_bytes words.now)) files status
         → (Rose (F.faults folder.old) (F.faults folder.new) → ⊥) → (Rose (S.faults out.old) (S.faults out.new) → ⊥)
-        → (result ≡ outcome.status) ⊎ (result ≡ 1) }
+        → (result ≡ status) ⊎ (result ≡ 1) }
+    // What a file says, told by reading it from left to right, is what the grammars say.
+    ensures readings { ReadingsAgree }
 {
     serve(alloc, words, folder, out).code()
 }

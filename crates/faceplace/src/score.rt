@@ -7,7 +7,7 @@ ghost use Rattle.faceplace.specs.Judging.{Reports};
 ghost use Rattle.faceplace.specs.Status.{code_of};
 ghost use Rattle.faceplace.specs.Run.{outside, EndsAs, EndsForProblem};
 
-use crate::input::{Stop, read_input, read_output};
+use crate::input::{MOST_INPUT, Stop, read_input, read_output};
 use crate::refusal::refuse;
 use crate::report::{broken_report, score_report};
 use crate::status::{Status, tell};
@@ -52,7 +52,7 @@ fn score_problem<F: Folder, S: Sink>(
         Ok(drawn) => judge(alloc, problem, &drawn, out),
         Err(Stop::Memory) => Status::NoMemory,
         Err(Stop::Device) => Status::Device,
-        Err(Stop::Refused(cause)) => refuse(alloc, output, cause, out),
+        Err(Stop::Refused(cause)) => refuse(alloc, MOST_INPUT, output, cause, out),
     }
 }
 
@@ -72,6 +72,6 @@ pub fn run_score<F: Folder, S: Sink>(
         Ok(problem) => score_problem(alloc, &problem, output, folder, out),
         Err(Stop::Memory) => Status::NoMemory,
         Err(Stop::Device) => Status::Device,
-        Err(Stop::Refused(cause)) => refuse(alloc, input, cause, out),
+        Err(Stop::Refused(cause)) => refuse(alloc, MOST_INPUT, input, cause, out),
     }
 }

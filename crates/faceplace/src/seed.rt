@@ -4,24 +4,22 @@ ghost use Rattle.std.specs.Prelude.{◌≡◌, IfOk, Ok, Some, string_bytes};
 ghost use Rattle.fp_place.specs.Cut.{cut};
 ghost use Rattle.fp_place.specs.Places.{dies_of};
 ghost use Rattle.fp_place.specs.Placed.{places_of, IsPlacementOf};
-ghost use Rattle.fp_score.specs.FirstFit.{IsStopOf};
 ghost use Rattle.fp_score.specs.Terminals.{AreOnCuts};
 ghost use Rattle.fp_seed.specs.Seeded.{SeedGives};
 ghost use Rattle.faceplace.specs.Request.{Seed};
-ghost use Rattle.faceplace.specs.Report.{unfit_report};
 ghost use Rattle.faceplace.specs.Seeding.{IsLineOf};
-ghost use Rattle.faceplace.specs.Status.{code_of, Refuses};
+ghost use Rattle.faceplace.specs.Status.{code_of};
 ghost use Rattle.faceplace.specs.Run.{outside, EndsAs, EndsForProblem};
 
-use crate::input::{self, read_input};
-use crate::refusal::refuse;
-use crate::report::{seed_report, unfit_report};
+use crate::input::{self, MOST_INPUT, read_input};
+use crate::refusal::{refuse, unfit};
+use crate::report::seed_report;
 use crate::status::{Status, tell};
 use fp_base::{Folder, NetId, Sink};
 use fp_netlist::Problem;
 use fp_out::write_out;
 use fp_place::Placement;
-use fp_score::{Stop, score};
+use fp_score::score;
 use fp_seed::{SeedFault, Seeded, seed};
 use fp_tech::Grid;
 use std::alloc::{AllocError, Global};
@@ -51,24 +49,6 @@ fn line_of(alloc: Global, problem: &Problem, seeded: &Seeded) -> Result<String, 
     let cut = cut_nets(problem, &seeded.placement);
     let slots = Grid::of(problem.dies()).slots();
     seed_report(alloc, total, seeded.first, cut, slots)
-}
-
-/// Reports why neither first fit stands.
-fn unfit<S: Sink>(
-    alloc: Global,
-    problem: &Problem,
-    top_first: Stop,
-    bottom_first: Stop,
-    out: &mut S,
-) -> Status
-    requires top { IsStopOf problem.now top_first }
-    requires bottom { IsStopOf problem.now bottom_first }
-    ensures { Refuses (unfit_report problem.now top_first bottom_first) 4 (code_of result) (S.written out.old) (S.written out.new) (S.faults out.old) (S.faults out.new) }
-{
-    match unfit_report(alloc, problem, top_first, bottom_first) {
-        Ok(report) => tell(out, &report, Status::Unfit),
-        Err(_) => Status::NoMemory,
-    }
 }
 
 /// Writes a seed to an output file, and reports it.
@@ -136,6 +116,6 @@ pub fn run_seed<F: Folder, S: Sink>(
         Ok(problem) => seed_problem(alloc, &problem, output, folder, out),
         Err(input::Stop::Memory) => Status::NoMemory,
         Err(input::Stop::Device) => Status::Device,
-        Err(input::Stop::Refused(cause)) => refuse(alloc, input, cause, out),
+        Err(input::Stop::Refused(cause)) => refuse(alloc, MOST_INPUT, input, cause, out),
     }
 }

@@ -35,6 +35,18 @@ BottomDieMaxUtil 90\nTopDieRows 0 0 30 10 3\nBottomDieRows 0 0 30 15 2\nTopDieTe
 TerminalSpacing 4\nNumInstances 6\nInst C1 MC1\nInst C2 MC2\nInst C3 MC1\nInst C4 MC2\nInst C5 MC2\nInst C6 MC1\nNumNets 3\n\
 Net N1 3\nPin C1/P1\nPin C2/P1\nPin C6/P1\nNet N2 2\nPin C3/P1\nPin C4/P1\nNet N3 3\nPin C4/P2\nPin C5/P2\nPin C2/P2\n";
 
+/// The small input's dies, without cells and nets.
+const EMPTY: &str =
+    "NumTechnologies 2\nTech TA 1\nLibCell MC1 4 10 1\nPin P1 1 2\nTech TB 1\nLibCell MC1 5 10 1\nPin P1 2 3\n\
+DieSize 0 0 20 20\nTopDieMaxUtil 10\nBottomDieMaxUtil 50\nTopDieRows 0 0 20 10 2\nBottomDieRows 0 0 20 10 2\nTopDieTech TA\n\
+BottomDieTech TB\nTerminalSize 2 2\nTerminalSpacing 1\nNumInstances 0\nNumNets 0\n";
+
+/// A net of three cells on the top die's one row, with two cells in between that have no net.
+const APART: &str =
+    "NumTechnologies 1\nTech T 1\nLibCell W 10 10 1\nPin P 5 5\nDieSize 0 0 50 10\nTopDieMaxUtil 100\nBottomDieMaxUtil 0\n\
+TopDieRows 0 0 50 10 1\nBottomDieRows 0 0 50 10 1\nTopDieTech T\nBottomDieTech T\nTerminalSize 2 2\nTerminalSpacing 1\n\
+NumInstances 5\nInst X1 W\nInst X2 W\nInst F W\nInst G W\nInst Y W\nNumNets 1\nNet N1 3\nPin X1/P\nPin X2/P\nPin Y/P\n";
+
 /// Lines of a text, each with the line that takes its place.
 type Changes = [(&'static str, &'static str); 5];
 
@@ -69,12 +81,54 @@ const THREE_NETS: Changes = [
     NONE,
 ];
 
+/// The small input with room for one cell on its bottom die, so that no trial follows its seed.
+const ONE_PLACE: Changes = [
+    ("BottomDieRows 0 0 20 10 2", "BottomDieRows 0 0 8 10 1"),
+    NONE,
+    NONE,
+    NONE,
+    NONE,
+];
+
+/// The small input with its top die full by its rows, and not by its percent.
+const NARROW: Changes = [
+    ("TopDieMaxUtil 10", "TopDieMaxUtil 100"),
+    ("TopDieRows 0 0 20 10 2", "TopDieRows 0 0 7 10 1"),
+    NONE,
+    NONE,
+    NONE,
+];
+
+/// The small input with terminals that cost more than the cells' way to each other.
+const COSTLY: Changes = [
+    ("TerminalSpacing 1", "TerminalSpacing 1\nTerminalCost 7"),
+    NONE,
+    NONE,
+    NONE,
+    NONE,
+];
+
+/// The small input with a blockage in the corner where its second cell would stand.
+const BLOCKED: Changes = [
+    (
+        "TerminalSpacing 1",
+        "TerminalSpacing 1\nNumBlockages 1\nBlockage Bottom 3 0 6 10",
+    ),
+    NONE,
+    NONE,
+    NONE,
+    NONE,
+];
+
 /// The last section of the small input, behind which a cost and blockages may stand.
 const SPACING: &str = "TerminalSpacing 1";
 
 /// The output of the small input.
 const PLACED: &str =
     "TopDiePlacement 1\nInst C1 0 0\nBottomDiePlacement 1\nInst C2 0 0\nNumTerminals 1\nTerminal N1 2 2\n";
+
+/// The report of the small input's placement.
+const PLACED_REPORT: &str = "seed 2\ntrial 0 start 2\ntrial 1 kept 5\nscore 2\n";
 
 /// The output of the contest's case.
 const CONTEST_PLACED: &str =
@@ -148,7 +202,7 @@ struct Ended {
 
 /// The folder that a run finds.
 fn folder_of(alloc: Global, trial: &Trial<'_>) -> Result<MemFolder, Fail> {
-    let mut folder = MemFolder::new(alloc, trial.folder_fails, 2, 2048)?;
+    let mut folder = MemFolder::new(alloc, trial.folder_fails, 3, 2048)?;
     if let Some(bytes) = trial.input {
         let _ = folder.put_file("a", bytes.as_bytes());
     }
@@ -160,7 +214,7 @@ fn folder_of(alloc: Global, trial: &Trial<'_>) -> Result<MemFolder, Fail> {
 
 /// A run of these words.
 fn run_words(alloc: Global, words: &[String], trial: &Trial<'_>) -> Result<Ended, Fail> {
-    let mut out = MemSink::new(alloc, trial.sink_fails, 64)?;
+    let mut out = MemSink::new(alloc, trial.sink_fails, 128)?;
     match folder_of(alloc, trial) {
         Ok(mut folder) => {
             let status = run(alloc, words, &mut folder, &mut out);
@@ -188,7 +242,7 @@ fn run_line(alloc: Global, trial: &Trial<'_>) -> Result<Ended, Fail> {
     ended
 }
 
-/// A run over these files ends with this status and report, and leaves this in the file `o`, or no such file.
+/// A run over these files ends with this status and report, and leaves this in the file `o`, or no such file, and no file `c`.
 fn expect_run(
     rt: &impl Abort,
     alloc: Global,
@@ -201,6 +255,7 @@ fn expect_run(
     assert!(rt; end.status == status, "{report}");
     assert!(rt; end.out.written() == report.as_bytes(), "{report}");
     assert!(rt; end.folder.file("o") == left.map(str::as_bytes), "{report}");
+    assert!(rt; end.folder.file("c").is_none(), "{report}");
     drop(end);
     Ok(())
 }
@@ -662,6 +717,7 @@ fn a_missing_or_empty_file_is_told_and_none_is_made(rt: HostRuntime) -> Result<(
         ("seed a o", None, "input a 0 missing\n"),
         ("seed a o", Some(""), "input a 0 ended\n"),
         ("score a o", Some(SMALL), "input o 0 missing\n"),
+        ("place a o c", None, "input a 0 missing\n"),
     ] {
         let trial = Trial::new(line, input, None);
         expect_run(&rt, rt.alloc(), &trial, 3, report, None)?;
@@ -687,8 +743,15 @@ fn other_words_are_no_request(rt: HostRuntime) -> Result<(), Fail> {
         "seed a",
         "seed a a",
         "score a a",
-        "place a o c",
         "seed a o c",
+        "place a o",
+        "place a a c",
+        "place a o a",
+        "place a o o",
+        "place a o c 0",
+        "place a o c 9",
+        "place a o c x",
+        "place a o c 3 3",
     ] {
         expect_no_request(&rt, rt.alloc(), line)?;
     }
@@ -727,4 +790,176 @@ fn a_sink_that_fails_leaves_the_output_whole(rt: HostRuntime) -> Result<(), Fail
         sink_fails: &[0],
     };
     expect_run(&rt, rt.alloc(), &trial, 6, "", Some(PLACED))
+}
+
+/// A placement is done, with this report and this output, and its certificate begins and ends so.
+fn expect_placed(
+    rt: &impl Abort,
+    alloc: Global,
+    trial: &Trial<'_>,
+    report: &str,
+    output: &str,
+    cert: (&str, &str),
+) -> Result<(), Fail> {
+    let end = run_line(alloc, trial)?;
+    assert!(rt; end.status == 0, "{report}");
+    assert!(rt; end.out.written() == report.as_bytes(), "{report}");
+    assert!(rt; end.folder.file("o") == Some(output.as_bytes()), "{report}");
+    let written = end.folder.file("c").unwrap_or(b"");
+    assert!(rt; written.starts_with(cert.0.as_bytes()), "{report}");
+    assert!(rt; written.ends_with(cert.1.as_bytes()), "{report}");
+    drop(end);
+    Ok(())
+}
+
+/// A placement of a text with its lines changed.
+fn expect_place(
+    rt: &impl Abort,
+    alloc: Global,
+    text: &str,
+    changes: &Changes,
+    report: &str,
+    output: &str,
+    cert: (&str, &str),
+) -> Result<(), Fail> {
+    let input = with_changes(alloc, text, changes.as_slice())?;
+    let trial = Trial::new("place a o c", Some(input.as_str()), None);
+    let done = expect_placed(rt, alloc, &trial, report, output, cert);
+    drop(input);
+    done
+}
+
+#[test]
+fn places_the_small_input(rt: HostRuntime) -> Result<(), Fail> {
+    let head = "FaceplaceCert 1\nLimit 3\nTrials 2\n";
+    for line in ["place a o c", "place a o c 03"] {
+        let trial = Trial::new(line, Some(SMALL), None);
+        expect_placed(
+            &rt,
+            rt.alloc(),
+            &trial,
+            PLACED_REPORT,
+            PLACED,
+            (head, "Answer 0\n"),
+        )?;
+    }
+    Ok(())
+}
+
+#[test]
+fn places_no_worse_than_the_seed(rt: HostRuntime) -> Result<(), Fail> {
+    let head = "FaceplaceCert 1\nLimit 3\nTrials 2\n";
+    for (text, changes, report, output, tail) in [
+        (
+            EMPTY,
+            UNCHANGED,
+            "seed 0\ntrial 0 start 0\ntrial 1 kept 0\nscore 0\n",
+            "TopDiePlacement 0\nBottomDiePlacement 0\nNumTerminals 0\n",
+            "Answer 0\n",
+        ),
+        (LOOSE, UNCHANGED, PLACED_REPORT, PLACED, "Answer 0\n"),
+        (SMALL, NARROW, PLACED_REPORT, PLACED, "Answer 0\n"),
+        (
+            SMALL,
+            ONE_PLACE,
+            "seed 2\ntrial 0 start 2\ntrial 1 norow C2\nscore 2\n",
+            PLACED,
+            "Trial 1 norow 1\nTopCells 0\nAnswer 0\n",
+        ),
+    ] {
+        let cert = (head, tail);
+        expect_place(&rt, rt.alloc(), text, &changes, report, output, cert)?;
+    }
+    Ok(())
+}
+
+#[test]
+fn places_better_than_the_seed(rt: HostRuntime) -> Result<(), Fail> {
+    for (text, changes, report, output, head) in [
+        (
+            APART,
+            UNCHANGED,
+            "seed 40\ntrial 0 start 40\ntrial 1 better 20\ntrial 2 kept 20\nscore 20\n",
+            "TopDiePlacement 5\nInst X1 20 0\nInst X2 0 0\nInst F 30 0\nInst G 40 0\nInst Y 10 0\nBottomDiePlacement 0\nNumTerminals 0\n",
+            "FaceplaceCert 1\nLimit 3\nTrials 3\n",
+        ),
+        (
+            SMALL,
+            COSTLY,
+            "seed 9\ntrial 0 start 9\ntrial 1 better 5\ntrial 2 kept 5\nscore 5\n",
+            "TopDiePlacement 0\nBottomDiePlacement 2\nInst C1 5 0\nInst C2 0 0\nNumTerminals 0\n",
+            "FaceplaceCert 2\nCost 7\nLimit 3\n",
+        ),
+        (
+            SMALL,
+            BLOCKED,
+            "seed 8\ntrial 0 start 8\ntrial 1 better 5\ntrial 2 kept 5\nscore 5\n",
+            "TopDiePlacement 0\nBottomDiePlacement 2\nInst C1 11 0\nInst C2 6 0\nNumTerminals 0\n",
+            "FaceplaceCert 1\nLimit 3\n",
+        ),
+    ] {
+        let cert = (head, "Answer 1\n");
+        expect_place(&rt, rt.alloc(), text, &changes, report, output, cert)?;
+    }
+    Ok(())
+}
+
+/// The score on the last line of a report.
+fn last_score(report: &[u8]) -> Option<u64> {
+    let text = str::from_utf8(report).ok()?;
+    let line = text.lines().last()?;
+    line.strip_prefix("score ")?.parse().ok()
+}
+
+#[test]
+fn places_the_contest_case_no_worse_than_its_first_trial(rt: HostRuntime) -> Result<(), Fail> {
+    let trial = Trial::new("place a o c", Some(CONTEST), None);
+    let end = run_line(rt.alloc(), &trial)?;
+    let report = end.out.written();
+    assert!(&rt; end.status == 0);
+    assert!(&rt; report.starts_with(b"seed 83\ntrial 0 start 74\ntrial 1 "));
+    assert!(&rt; last_score(report).is_some_and(|score| score <= 74));
+    drop(end);
+    Ok(())
+}
+
+/// A placement of the small input whose device fails at such calls ends with 6 and prints nothing; its output is whole, and its certificate
+/// is this one, where that is told.
+fn expect_failed<'f>(
+    rt: &impl Abort,
+    alloc: Global,
+    folder_fails: &'f [u64],
+    sink_fails: &'f [u64],
+    cert: Option<&[u8]>,
+) -> Result<(), Fail> {
+    let trial = Trial {
+        line: "place a o c",
+        input: Some(SMALL),
+        output: None,
+        folder_fails,
+        sink_fails,
+    };
+    let end = run_line(alloc, &trial)?;
+    assert!(rt; end.status == 6);
+    assert!(rt; end.out.written().is_empty());
+    assert!(rt; end.folder.file("o") == Some(PLACED.as_bytes()));
+    assert!(rt; cert.is_none() || end.folder.file("c") == cert);
+    drop(end);
+    Ok(())
+}
+
+/// What fails behind a run that was whole: the folder's last call, or the sink's first.
+fn expect_failures(rt: &impl Abort, alloc: Global, whole: &Ended) -> Result<(), Fail> {
+    let last = whole.folder.calls().saturating_sub(1);
+    expect_failed(rt, alloc, &[last], &[], None)?;
+    expect_failed(rt, alloc, &[], &[0], whole.folder.file("c"))
+}
+
+#[test]
+fn a_device_that_fails_last_leaves_what_was_written_before(rt: HostRuntime) -> Result<(), Fail> {
+    let trial = Trial::new("place a o c", Some(SMALL), None);
+    let whole = run_line(rt.alloc(), &trial)?;
+    let done = expect_failures(&rt, rt.alloc(), &whole);
+    drop(whole);
+    done
 }

@@ -1,11 +1,12 @@
-use Rattle.std.proofs.Common.{Some, Err, refl, ap, inl, inr}
+use Rattle.std.proofs.Common.{Some, Ok, Err, refl, ap, inr}
 use Rattle.faceplace.specs.Causes.{cause_of}
 use Rattle.faceplace.specs.Request.{Score}
 use Rattle.faceplace.specs.Report.{input_report}
-use Rattle.faceplace.specs.Outcome.{OutputHasCause}
+use Rattle.faceplace.specs.Sources.{most_input}
 use Rattle.faceplace.specs.Status.{code_of}
 use Rattle.faceplace.specs.Run.{outside}
-use Rattle.faceplace.proofs.Endings.{refused, unread, judged}
+use Rattle.faceplace.proofs.Endings.{refused, unread}
+use Rattle.faceplace.proofs.Verdicts.{judged}
 use Rattle.faceplace.proofs.score.score_problem.Goals as goal
 
 pub returns-in-Ok : goal.returns-in-Ok
@@ -25,10 +26,10 @@ returns-in-Err-Device g c = λ input says.
     let folder_faults = g.F.Folder.faults in
     let put = g.S.Sink.written in
     let sink_faults = g.S.Sink.faults in
-    unread (Score input c.args.output.now)
+    unread (Score input c.args.output.now) c.args.output.now
     (outside (held c.args.folder.now) (put c.args.out.now) (folder_faults c.args.folder.now) (sink_faults c.args.out.now))
     (outside (held c.read_output.new.folder) (put c.args.out.now) (folder_faults c.read_output.new.folder) (sink_faults c.args.out.now))
-    (c.in-Err-Device.ensures.device (ap Err c.in-Err-Device.field-0-is)) c.read_output.ensures.held refl refl
+    (inr (Ok c.args.problem.now, says.says, refl)) (c.in-Err-Device.ensures.device (ap Err c.in-Err-Device.field-0-is)) c.read_output.ensures.held refl refl
 
 pub returns-in-Err-Refused : goal.returns-in-Err-Refused
 returns-in-Err-Refused g c = λ input says.
@@ -37,9 +38,8 @@ returns-in-Err-Refused g c = λ input says.
     let put = g.S.Sink.written in
     let sink_faults = g.S.Sink.faults in
     let cause = cause_of c.in-Err-Refused.cause in
-    let has : OutputHasCause c.args.output.now (held c.args.folder.now) c.args.problem.now cause = rw c.in-Err-Refused.field-0-is at c.in-Err-Refused.ensures.gives in
-    refused (Some (Score input c.args.output.now)) 3 _ (input_report c.args.output.now cause)
+    refused (Some (Score input c.args.output.now)) 3 _ (input_report most_input c.args.output.now cause)
     (outside (held c.args.folder.now) (put c.args.out.now) (folder_faults c.args.folder.now) (sink_faults c.args.out.now))
     (outside (held c.read_output.new.folder) (put c.refuse.new.out) (folder_faults c.read_output.new.folder) (sink_faults c.refuse.new.out))
-    (inr (inl (record { problem = c.args.problem.now; says = says; cause = cause; has = has; is = refl })))
+    (Ok c.args.problem.now, says.says, (says.sound, (Err cause, rw c.in-Err-Refused.field-0-is at c.in-Err-Refused.ensures.gives, refl)))
     c.read_output.ensures.held c.refuse.ensures

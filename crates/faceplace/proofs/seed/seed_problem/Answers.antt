@@ -1,4 +1,4 @@
-use Rattle.std.proofs.Common.{Some, Err, refl, inr}
+use Rattle.std.proofs.Common.{Some, Ok, Err, refl, inr}
 use Rattle.fp_tech.specs.Slots.{slot_count}
 use Rattle.fp_score.specs.FirstFitLaws.{stop_within}
 use Rattle.fp_base.specs.declared.ids.Die.TheVariants as dies
@@ -33,5 +33,5 @@ returns-in-Err-Unfit g c = λ input says.
     refused (Some (Seed input c.args.output.now)) 4 _ (unfit_report c.args.problem.now top bottom)
     (outside (held c.args.folder.now) (put c.args.out.now) (folder_faults c.args.folder.now) (sink_faults c.args.out.now))
     (outside (held c.args.folder.now) (put c.unfit.new.out) (folder_faults c.args.folder.now) (sink_faults c.unfit.new.out))
-    (inr (inr (record { stopping = stopping c.args.problem.now top bottom gives; says = says; stops = is_stopping c.args.problem.now top bottom gives; is = refl })))
+    (Ok c.args.problem.now, says.says, (says.sound, inr (record { stopping = stopping c.args.problem.now top bottom gives; stops = is_stopping c.args.problem.now top bottom gives; is = refl })))
     refl c.unfit.ensures

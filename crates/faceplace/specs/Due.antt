@@ -1,0 +1,94 @@
+-- What the words and the files make due.
+use Rattle.std.specs.Prelude.{◌≡◌, ◌⊎◌, ℕ, List, [], ◌∷◌, Option, Some, None, pos}
+use Rattle.fp_base.specs.Files.{Files}
+use Rattle.fp_tech.specs.Slots.{Slots}
+use Rattle.fp_netlist.specs.Netlist.{Netlist, IsSound}
+use Rattle.fp_place.specs.declared.judge.Subject.{Subject}
+use Rattle.fp_place.specs.Breaks.{IsFirstBreak}
+use Rattle.fp_place.specs.Drawing.{Drawing}
+use Rattle.fp_place.specs.Legal.{IsLegal}
+use Rattle.fp_place.specs.Placed.{Placed, drawn_of}
+use Rattle.fp_out.specs.OutText.{out_text}
+use Rattle.fp_cert.specs.CertText.{cert_text}
+use Rattle.fp_cert.specs.Shown.{ShownRun}
+use Rattle.fp_cert.specs.Standing.{placed_shown}
+use Rattle.fp_cert.specs.Trials.{answer_of}
+use Rattle.fp_flow.specs.Outcomes.{IsPlaced}
+use Rattle.faceplace.specs.Request.{Asked, Seed, Score, Place}
+use Rattle.faceplace.specs.Report.{words_report, unfit_report, score_report, broken_report}
+use Rattle.faceplace.specs.Outcome.{Outcome, told, refusal}
+use Rattle.faceplace.specs.Sources.{AfterFile, most_input, problem_in, drawing_in}
+use Rattle.faceplace.specs.Drawn.{drawn_score}
+use Rattle.faceplace.specs.Seeding.{Seeding, Stopping, IsSeeding, IsStopping, seed_text, IsSeedReport}
+use Rattle.faceplace.specs.Trials.{place_report}
+
+-- `seed`, 0: the problem's seed stands; it is written and reported
+pub record SeedStands (p : Netlist) (output : List ℕ) (outcome : Outcome) : Type 0 where
+  pub seeding : Seeding
+  pub stands : IsSeeding p seeding
+  pub line : List ℕ
+  pub reports : IsSeedReport p seeding line
+  pub is : outcome ≡ record { status = 0; report = line; writings = record { name = output; text = seed_text p seeding } ∷ [] }
+
+-- 4: neither first fit of the problem stands
+pub record SeedStops (p : Netlist) (outcome : Outcome) : Type 0 where
+  pub stopping : Stopping
+  pub stops : IsStopping p stopping
+  pub is : outcome ≡ told 4 (unfit_report p stopping.top_first stopping.bottom_first)
+
+abbrev pub SeedDue : Netlist → List ℕ → Outcome → Type 0
+SeedDue p output outcome = SeedStands p output outcome ⊎ SeedStops p outcome
+
+-- `score`, 0: the drawing is legal, and its score is reported
+pub record ScoreStands (p : Netlist) (drawing : Drawing) (outcome : Outcome) : Type 0 where
+  pub legal : IsLegal p drawing
+  pub total : ℕ
+  pub scored : pos total ≡ drawn_score p drawing
+  pub is : outcome ≡ told 0 (score_report total)
+
+-- 5: the drawing breaks a rule: the least one, with its first subject
+pub record ScoreBreaks (p : Netlist) (drawing : Drawing) (outcome : Outcome) : Type 0 where
+  pub rule : ℕ
+  pub subject : Subject
+  pub breaks : IsFirstBreak p drawing rule subject
+  pub is : outcome ≡ told 5 (broken_report p rule subject)
+
+abbrev pub ScoreDue : Netlist → Drawing → Outcome → Type 0
+ScoreDue p drawing outcome = ScoreStands p drawing outcome ⊎ ScoreBreaks p drawing outcome
+
+-- a placement is written, and then the certificate of the run that led to it; and this is reported
+abbrev pub placing : Netlist → ShownRun → Placed → List ℕ → List ℕ → List ℕ → Outcome
+placing p run answer output cert report = record {
+  status = 0;
+  report = report;
+  writings = record { name = output; text = out_text p (drawn_of answer) } ∷ record { name = cert; text = cert_text run } ∷ [];
+}
+
+-- `place`, 0: a run of the problem of at most so many trials beside the first one; its answer is legal and no worse than the seed and than
+-- each trial that placed its cells
+pub record PlaceStands (p : Netlist) (output cert : List ℕ) (trials : ℕ) (outcome : Outcome) : Type 0 where
+  pub grid : Slots
+  pub run : ShownRun
+  pub seed_score : ℕ
+  pub placed : IsPlaced p trials grid run seed_score (placed_shown p grid (answer_of run))
+  pub is : outcome ≡ placing p run (placed_shown p grid (answer_of run)) output cert (place_report p seed_score run)
+
+abbrev pub PlaceDue : Netlist → List ℕ → List ℕ → ℕ → Outcome → Type 0
+PlaceDue p output cert trials outcome = PlaceStands p output cert trials outcome ⊎ SeedStops p outcome
+
+-- 3: the input file is not held, too long, or not in its grammar; else what comes next for the problem that it says, which is sound
+abbrev pub AfterInput : Option Files → List ℕ → (Netlist → Type 0) → Outcome → Type 0
+AfterInput held input next outcome =
+    AfterFile held (problem_in input) (λ p. IsSound p × next p) (λ cause. outcome ≡ refusal most_input input cause)
+
+-- 3: the output file is not held, too long, or not in its grammar for the problem; else what comes next for the drawing that it says
+abbrev pub AfterOutput : Option Files → Netlist → List ℕ → (Drawing → Type 0) → Outcome → Type 0
+AfterOutput held p output next outcome = AfterFile held (drawing_in p output) next (λ cause. outcome ≡ refusal most_input output cause)
+
+-- 2: the words are no request
+abbrev pub IsDue : Option Asked → Option Files → Outcome → Type 0
+IsDue None held outcome = outcome ≡ told 2 words_report
+IsDue (Some (Seed input output)) held outcome = AfterInput held input (λ p. SeedDue p output outcome) outcome
+IsDue (Some (Score input output)) held outcome =
+    AfterInput held input (λ p. AfterOutput held p output (λ drawing. ScoreDue p drawing outcome) outcome) outcome
+IsDue (Some (Place input output cert trials)) held outcome = AfterInput held input (λ p. PlaceDue p output cert trials outcome) outcome

@@ -1,0 +1,33 @@
+-- What makes a status due, whatever is reported and written with it.
+use Rattle.std.specs.Prelude.{◌≡◌, ◌⊎◌, ℕ, List, Option, Some, None, MatchResult}
+use Rattle.fp_base.specs.Files.{Files}
+use Rattle.fp_netlist.specs.Netlist.{Netlist, IsSound}
+use Rattle.fp_place.specs.Drawing.{Drawing}
+use Rattle.fp_place.specs.Legal.{IsLegal}
+use Rattle.faceplace.specs.Request.{Asked, Seed, Score, Place}
+use Rattle.faceplace.specs.Sources.{problem_in, drawing_in}
+use Rattle.faceplace.specs.Seeding.{Seeding, Stopping, IsSeeding, IsStopping}
+
+-- 0 where the problem's seed stands, 4 where neither first fit does
+abbrev pub SeedOwes : Netlist → ℕ → Type 0
+SeedOwes p status = ((s : Seeding) × IsSeeding p s × (status ≡ 0)) ⊎ ((s : Stopping) × IsStopping p s × (status ≡ 4))
+
+-- 0 where the drawing is legal, 5 where it is not
+abbrev pub ScoreOwes : Netlist → Drawing → ℕ → Type 0
+ScoreOwes p drawing status = (IsLegal p drawing × (status ≡ 0)) ⊎ ((IsLegal p drawing → ⊥) × (status ≡ 5))
+
+-- 3 where the input file is refused; else what is owed for the problem that it says, which may be taken to be sound
+abbrev pub OwedForInput : Files → List ℕ → (Netlist → Type 0) → ℕ → Type 0
+OwedForInput files input next status = MatchResult (problem_in input files) (λ p. IsSound p → next p) (λ cause. status ≡ 3)
+
+-- 3 where the output file is refused; else what is owed for the drawing that it says
+abbrev pub OwedForOutput : Files → Netlist → List ℕ → (Drawing → Type 0) → ℕ → Type 0
+OwedForOutput files p output next status = MatchResult (drawing_in p output files) next (λ cause. status ≡ 3)
+
+-- 2 where the words are no request
+abbrev pub IsOwed : Option Asked → Files → ℕ → Type 0
+IsOwed None files status = status ≡ 2
+IsOwed (Some (Seed input output)) files status = OwedForInput files input (λ p. SeedOwes p status) status
+IsOwed (Some (Score input output)) files status =
+    OwedForInput files input (λ p. OwedForOutput files p output (λ drawing. ScoreOwes p drawing status) status) status
+IsOwed (Some (Place input output cert trials)) files status = OwedForInput files input (λ p. SeedOwes p status) status
