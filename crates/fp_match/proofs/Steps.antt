@@ -2,11 +2,12 @@
 use Rattle.std.proofs.Common.{◌≡◌, ◌≢◌, ℕ, ◌+◌, ◌-◌, ◌*◌, ◌<◌, ◌≤◌, inl, inr, List, length, get_or, min, max, sym, ap, ◌∙◌, arith}
 use Rattle.std.specs.Prelude.{slice_index, ◌^◌}
 use Rattle.std.proofs.lemmas.Bool.{cases_lt}
+use Rattle.std.proofs.lemmas.Nat.{mul-le}
 use Rattle.std.proofs.lemmas.Grind.{get_or_default_zero}
 use Rattle.fp_match.specs.declared.labels.Labels.{Labels}
 use Rattle.fp_match.specs.declared.matching.Matching.{Matching}
 use Rattle.fp_match.specs.declared.scan.Turn.{Turn}
-use Rattle.fp_match.specs.Prices.{IsWithinLimits, IsFloor, IsNear}
+use Rattle.fp_match.specs.Prices.{IsWithinLimits, IsFloor, IsNear, AreNearStripes}
 use Rattle.fp_match.specs.Owners.{unused}
 use Rattle.fp_match.specs.Search.{far, label_of, row_at, owner_of, column_of, price_of, HasRoom, Fits, IsMatching, least_of, IsTree, Grown, Scanned, StripeCovered, StripeScanned, IsOffer, Offered, IsTurn, IsLowered, IsEntered}
 use Rattle.fp_match.proofs.Tree.{least_held, least_start, place_for, tree_lowered, tree_entered, tree_sunk, tree_same, grown_refl, covered_grown, covered_far, offer_of, turn_low, scanned_more}
@@ -144,23 +145,15 @@ stripe_end_is cost columns row m a b from to end same scanned = record {
   covered = rw (← same) scanned.covered;
 }
 
-pub swept_start : (cost : ℕ → ℕ → ℕ) (columns width row : ℕ) (m : Matching) (a b : Labels) (from to : ℕ)
-    → Scanned cost columns row m a b from to → Scanned cost columns row m a b 0 (min (0 * width) columns)
-swept_start cost columns width row m a b from to scanned = record {
-  tree = scanned.tree;
-  grown = scanned.grown;
-  covered = λ s le lt. absurd (omega arith);
-}
-
-pub swept_step : (cost : ℕ → ℕ → ℕ) (columns width row : ℕ) (m : Matching) (a b c : Labels) (j : ℕ)
-    → Scanned cost columns row m a b 0 (min (j * width) columns) → j * width < columns → StripeScanned cost columns width row m b c j
-    → Scanned cost columns row m a c 0 (min ((j + 1) * width) columns)
-swept_step cost columns width row m a b c j done within more =
+pub swept_step : (cost : ℕ → ℕ → ℕ) (columns width row : ℕ) (m : Matching) (a b c : Labels) (from j : ℕ)
+    → Scanned cost columns row m a b from (min (j * width) columns) → j * width < columns → StripeScanned cost columns width row m b c j
+    → Scanned cost columns row m a c from (min ((j + 1) * width) columns)
+swept_step cost columns width row m a b c from j done within more =
     let start : min (j * width) columns ≡ j * width = omega arith in
     let end : min (j * width + width) columns ≡ min ((j + 1) * width) columns = omega arith in
-    stripe_end_is cost columns row m a c 0 (min (j * width + width) columns) (min ((j + 1) * width) columns) end
-    (scanned_more cost columns row m a b c 0 (j * width) (min (j * width + width) columns)
-    (stripe_end_is cost columns row m a b 0 (min (j * width) columns) (j * width) start done) more)
+    stripe_end_is cost columns row m a c from (min (j * width + width) columns) (min ((j + 1) * width) columns) end
+    (scanned_more cost columns row m a b c from (j * width) (min (j * width + width) columns)
+    (stripe_end_is cost columns row m a b from (min (j * width) columns) (j * width) start done) more)
 
 pub stripe_grown : (cost : ℕ → ℕ → ℕ) (columns width row : ℕ) (m : Matching) (b c : Labels) (first : ℕ) → Grown b c
     → StripeCovered cost columns width row m b first → StripeCovered cost columns width row m c first
@@ -254,8 +247,35 @@ near_scanned cost columns width row m a b t stripe limit start end turn near lim
   ];
 }
 
-pub swept_end : (cost : ℕ → ℕ → ℕ) (columns width row : ℕ) (m : Matching) (a b : Labels) (j count : ℕ) → j ≡ count → columns ≤ count * width
-    → Scanned cost columns row m a b 0 (min (j * width) columns) → Scanned cost columns row m a b 0 columns
-swept_end cost columns width row m a b j count same all scanned =
-    let product : j * width ≡ count * width = ap (λ x. x * width) same in
-    stripe_end_is cost columns row m a b 0 (min (j * width) columns) columns (omega arith) scanned
+-- a range cut down to the stripes that there are
+pub stripes_clipped : (cost : ℕ → ℕ) (columns width limit start end first last count : ℕ) → AreNearStripes cost columns width limit start end
+    → first ≤ start → min end count ≤ last → columns ≤ count * width → AreNearStripes cost columns width limit first last
+stripes_clipped cost columns width limit start end first last count near low high all = record {
+  before = λ s lt under. near.before s lt (omega (arith, mul-le first width start width low (omega arith)));
+  after = λ s lt over. elim (cases_lt count end) [
+    | inl more ↦ absurd (omega (arith, mul-le count width last width (omega arith) (omega arith)))
+    | inr few ↦ near.after s lt (omega (arith, mul-le end width last width (omega arith) (omega arith)))
+  ];
+}
+
+-- the stripes that may hold a column within the limit were looked at
+pub swept_end : (cost : ℕ → ℕ → ℕ) (columns width row : ℕ) (m : Matching) (a b : Labels) (t : Turn) (limit start end j : ℕ)
+    → IsTurn cost row m a t → AreNearStripes (cost t.row) columns width limit start end → limit + t.depth ≡ a.level + t.least → j ≡ end
+    → Scanned cost columns row m a b (min (start * width) columns) (min (j * width) columns) → Scanned cost columns row m a b 0 columns
+swept_end cost columns width row m a b t limit start end j turn near limit_is same scanned =
+    let product : j * width ≡ end * width = ap (λ x. x * width) same in
+    record {
+      tree = scanned.tree;
+      grown = scanned.grown;
+      covered = λ s le lt. elim (cases_lt s (start * width)) [
+        | inl under ↦
+            let beyond : limit ≤ cost t.row s = near.before s lt under in
+            covered_grown cost row m a b s scanned.grown (covered_far cost row m a t s 0 turn (omega arith) (omega arith))
+        | inr from ↦ elim (cases_lt s (end * width)) [
+          | inl inside ↦ scanned.covered s (omega arith) (omega arith)
+          | inr over ↦
+              let beyond : limit ≤ cost t.row s = near.after s lt over in
+              covered_grown cost row m a b s scanned.grown (covered_far cost row m a t s 0 turn (omega arith) (omega arith))
+        ]
+      ];
+    }

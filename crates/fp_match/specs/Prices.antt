@@ -61,6 +61,11 @@ pub record IsNear (cost : ℕ → ℕ) (columns width stripe limit start end : �
   pub before : (s : ℕ) → stripe * width ≤ s → s < stripe * width + width → s < columns → s < start → limit ≤ cost s
   pub after : (s : ℕ) → stripe * width ≤ s → s < stripe * width + width → s < columns → end ≤ s → limit ≤ cost s
 
+-- the columns of stripes outside the range cost at least the limit
+pub record AreNearStripes (cost : ℕ → ℕ) (columns width limit start end : ℕ) : Type 0 where
+  pub before : (s : ℕ) → s < columns → s < start * width → limit ≤ cost s
+  pub after : (s : ℕ) → s < columns → end * width ≤ s → limit ≤ cost s
+
 -- a choice among so many columns
 pub record Chosen : Type 0 where
   pub columns : ℕ

@@ -1,7 +1,7 @@
 //! What an assignment costs.
 
 ghost use Rattle.std.specs.Prelude.{◌≡◌, ◌<◌, ◌≤◌, ◌*◌, ℕ};
-ghost use Rattle.fp_match.specs.Prices.{IsWithinLimits, IsFloor, IsNear};
+ghost use Rattle.fp_match.specs.Prices.{IsWithinLimits, IsFloor, IsNear, AreNearStripes};
 
 use std::ops::Range;
 
@@ -9,7 +9,8 @@ use std::ops::Range;
 /// at most 2^18 rows and 2^20 columns, and a cost is at most 2^36.
 ///
 /// The columns lie in stripes of equal width, for which a row may have a floor under its costs, so
-/// that columns far away need not be read one by one, and a range that holds the near ones.
+/// that columns far away need not be read one by one, and a range that holds the near ones. So has it
+/// for the stripes.
 pub trait Costs {
     ghost row_count: { Self → ℕ };
 
@@ -58,5 +59,25 @@ pub trait Costs {
         ensures { IsNear (cost_of self.now row) (column_count self.now) (stripe_width self.now) stripe limit result.start result.end }
     {
         0..self.columns()
+    }
+
+    /// A range that holds all stripes of which a column costs the row less than the limit. It may hold
+    /// others, and go beyond the stripes.
+    fn near_stripes(&self, row: u32, limit: u64) -> Range<u32>
+        requires row_in { row < row_count self.now }
+        requires some { 0 < column_count self.now }
+        ensures { AreNearStripes (cost_of self.now row) (column_count self.now) (stripe_width self.now) limit result.start result.end }
+    {
+        let _width = self.stripe();
+        0..self.columns()
+    }
+
+    /// A stripe to begin with for the row: best one of which a column costs it little.
+    fn first_stripe(&self, row: u32) -> u32
+        requires row_in { row < row_count self.now }
+        requires some { 0 < column_count self.now }
+        ensures { result * stripe_width self.now < column_count self.now }
+    {
+        0
     }
 }

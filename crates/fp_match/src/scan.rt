@@ -7,7 +7,7 @@ use crate::choice::UNUSED;
 use crate::costs::Costs;
 use crate::labels::{FAR, Labels};
 use crate::matching::Matching;
-use crate::stripes::{near_columns, stripe_count};
+use crate::stripes::{near_columns, near_stripes};
 
 /// The row that was settled last, how far it lies, and the cost and price of its column, 0 where it has none. What another column costs
 /// the row, with its price, less that is the column's reduced cost.
@@ -152,24 +152,6 @@ fn scan_stripe<C: Costs>(
     scan_near(costs, matching, labels, row, turn, stripe);
 }
 
-/// The stripe of least floor for the row.
-fn nearest_stripe<C: Costs>(costs: &C, row: u32) -> u32
-    requires row_in { row < C.row_count costs.now }
-    requires some { 0 < C.column_count costs.now }
-    ensures { result * C.stripe_width costs.now < C.column_count costs.now }
-{
-    let mut best = 0;
-    let mut least = costs.floor(row, 0);
-    for stripe in 1..stripe_count(costs) {
-        let floor = costs.floor(row, stripe);
-        if floor < least {
-            best = stripe;
-            least = floor;
-        }
-    }
-    best
-}
-
 /// The turn of the row that was settled last.
 fn turn_of<C: Costs>(costs: &C, matching: &Matching, labels: &Labels, row: u32) -> Turn
     requires tree { IsTree (C.cost_of costs.now) (C.column_count costs.now) row matching.now labels.now }
@@ -197,8 +179,34 @@ fn turn_of<C: Costs>(costs: &C, matching: &Matching, labels: &Labels, row: u32) 
     }
 }
 
-/// Looks at all columns for the row that was settled last: those of the stripe of least floor first,
-/// and then those of each stripe that may hold a column within the level.
+/// Looks at the stripes that may hold a column within the level.
+fn scan_stripes<C: Costs>(
+    costs: &C,
+    matching: &Matching,
+    labels: &mut Labels,
+    row: u32,
+    turn: Turn,
+    first: u32,
+)
+    requires tree { IsTree (C.cost_of costs.now) (C.column_count costs.now) row matching.now labels.old }
+    requires matched { IsMatching (C.cost_of costs.now) (C.column_count costs.now) row matching.now }
+    requires fits { Fits (C.column_count costs.now) row matching.now }
+    requires row_in { row < C.row_count costs.now }
+    requires some { 0 < C.column_count costs.now }
+    requires turn { IsTurn (C.cost_of costs.now) row matching.now labels.old turn }
+    requires first { StripeCovered (C.cost_of costs.now) (C.column_count costs.now) (C.stripe_width costs.now) row matching.now labels.old first }
+    ensures { Scanned (C.cost_of costs.now) (C.column_count costs.now) row matching.now labels.old labels.new 0 (C.column_count costs.now) }
+{
+    let _limits = costs.rows();
+    let limit = labels.level + turn.least - turn.depth;
+    let near = near_stripes(costs, turn.row, limit);
+    for stripe in near.start..near.end {
+        scan_stripe(costs, matching, labels, row, turn, first, stripe);
+    }
+}
+
+/// Looks at all columns for the row that was settled last: those of one stripe first, and then those of each stripe that may hold a
+/// column within the level that is then known.
 pub(crate) fn scan_row<C: Costs>(costs: &C, matching: &Matching, labels: &mut Labels, row: u32)
     requires tree { IsTree (C.cost_of costs.now) (C.column_count costs.now) row matching.now labels.old }
     requires matched { IsMatching (C.cost_of costs.now) (C.column_count costs.now) row matching.now }
@@ -209,9 +217,7 @@ pub(crate) fn scan_row<C: Costs>(costs: &C, matching: &Matching, labels: &mut La
 {
     let _limits = costs.rows();
     let turn = turn_of(costs, matching, labels, row);
-    let first = nearest_stripe(costs, turn.row);
+    let first = costs.first_stripe(turn.row);
     scan_near(costs, matching, labels, row, turn, first);
-    for stripe in 0..stripe_count(costs) {
-        scan_stripe(costs, matching, labels, row, turn, first, stripe);
-    }
+    scan_stripes(costs, matching, labels, row, turn, first);
 }

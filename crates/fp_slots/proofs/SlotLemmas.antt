@@ -1,14 +1,14 @@
 -- The centres of slots, and the slots of one y.
-use Rattle.std.proofs.Common.{◌≡◌, ℕ, zero, suc, ◌+◌, ◌-◌, ◌*◌, ◌/◌, ◌%◌, ◌<◌, ◌≤◌, ◌==◌, if◌then◌else◌, pos, ◌-ℤ◌, unsigned_abs, sym, ap, subst, ◌∙◌, arith}
+use Rattle.std.proofs.Common.{◌≡◌, ℕ, zero, suc, ◌+◌, ◌-◌, ◌*◌, ◌/◌, ◌%◌, ◌<◌, ◌≤◌, ◌==◌, ◌↔◌, if◌then◌else◌, pos, ◌-ℤ◌, unsigned_abs, sym, ap, subst, ◌∙◌, arith}
 use Rattle.std.proofs.lemmas.Bool.Decides.{nat_tests}
 use Rattle.std.proofs.lemmas.Int.{ints}
 use Rattle.std.proofs.lemmas.Nat.{div-mul-add, div-add-mod'}
-use Rattle.std.proofs.Math.Nat.{mod-eq_of_lt}
+use Rattle.std.proofs.Math.Nat.{mod-eq_of_lt, mul_comm, mul-div_left, mul-div_cancel_left, div-lt_iff_lt-mul}
 use Rattle.fp_base.specs.declared.ids.Point.{Point}
 use Rattle.fp_tech.specs.declared.dies.Frame.{Frame}
 use Rattle.fp_tech.specs.declared.dies.TermSpec.{TermSpec}
 use Rattle.fp_tech.specs.Plan.{IsFrame, IsTermSpec}
-use Rattle.fp_tech.specs.Slots.{Slots, pitch_x, across, up, slot_count, stripe_of, column_x, row_y, centre_of, KeepsEdges, IsGrid}
+use Rattle.fp_tech.specs.Slots.{Slots, pitch_x, pitch_y, across, up, slot_count, stripe_of, column_x, row_y, centre_of, KeepsEdges, IsGrid}
 use Rattle.fp_tech.specs.SlotsLaws.{slot_keeps_edges, step_some}
 use Rattle.fp_score.specs.Reaches.{IsNear}
 
@@ -31,6 +31,12 @@ pub step_of_grid : (frame : Frame) (terminal : TermSpec) (grid : Slots) → IsTe
 step_of_grid frame terminal grid is_terminal is =
     let here : IsTermSpec grid.terminal = subst IsTermSpec (sym is.terminal_is) is_terminal in
     step_some grid.stride grid.terminal.size_x grid.terminal.spacing is.some_stride here.some_x
+
+-- and one upwards
+pub rise_of_grid : (frame : Frame) (terminal : TermSpec) (grid : Slots) → IsTermSpec terminal → IsGrid frame terminal grid → 0 < grid.stride * pitch_y grid.terminal
+rise_of_grid frame terminal grid is_terminal is =
+    let here : IsTermSpec grid.terminal = subst IsTermSpec (sym is.terminal_is) is_terminal in
+    step_some grid.stride grid.terminal.size_y grid.terminal.spacing is.some_stride here.some_y
 
 -- a stripe is a row of slots, where there are any
 pub stripe_is : (grid : Slots) (slot : ℕ) → slot < slot_count grid → stripe_of grid ≡ across grid
@@ -95,3 +101,60 @@ pub column_of : (grid : Slots) (stripe slot : ℕ) → stripe * stripe_of grid �
     → stripe * across grid + slot % across grid ≡ slot
 column_of grid stripe slot from to below =
     omega (arith, ap (λ row. row * across grid) (row_of grid stripe slot from to below), div-add-mod' slot (across grid))
+
+-- a grid that has slots has columns and stripes
+pub both_some : (wide tall : ℕ) → 0 < wide * tall → (0 < wide) × (0 < tall)
+both_some zero tall below = absurd (omega arith)
+both_some (suc wide) zero below = absurd (omega arith)
+both_some (suc wide) (suc tall) below = (omega arith, omega arith)
+
+-- so many stripes are all slots by those of a row
+pub stripes_are : (grid : Slots) (slots wide : ℕ) → 0 < slot_count grid → slots ≡ slot_count grid → wide ≡ stripe_of grid → slots / wide ≡ up grid
+stripes_are grid slots wide some slots_is wide_is =
+    let some_wide : 0 < across grid = (both_some (across grid) (up grid) some).0 in
+    let is : wide ≡ across grid = wide_is ∙ stripe_is grid 0 some in
+    (λ i. slots_is i / is i) ∙ mul-div_cancel_left (up grid) some_wide
+
+-- the next stripe stands a step higher
+pub rise_is : (grid : Slots) (step wide : ℕ) (first second : Point) → 0 < slot_count grid → 1 < up grid → wide ≡ stripe_of grid → first ≡ centre_of grid 0 → second ≡ centre_of grid wide
+    → step ≡ unsigned_abs (second.y -ℤ first.y) → step ≡ grid.stride * pitch_y grid.terminal
+unfolding row_y
+rise_is grid step wide first second some two wide_is first_is second_is is =
+    is
+    ∙ (λ i. unsigned_abs ((second_is i).y -ℤ (first_is i).y))
+    ∙ (λ i. unsigned_abs (pos (row_y grid (second_at i)) -ℤ pos (row_y grid (first_at i))))
+    ∙ ap unsigned_abs apart
+  where
+    some_wide : 0 < across grid
+    some_wide = (both_some (across grid) (up grid) some).0
+
+    first_at : 0 / across grid ≡ 0
+    first_at = omega (arith, some_wide, div-mul-add 0 (across grid) 0 some_wide)
+
+    second_at : wide / across grid ≡ 1
+    second_at = ap (λ w. w / across grid) (wide_is ∙ stripe_is grid 0 some ∙ (let same : across grid ≡ 1 * across grid + 0 = omega arith in same)) ∙ div-mul-add 1 (across grid) 0 some_wide
+
+    apart : pos (row_y grid 1) -ℤ pos (row_y grid 0) ≡ pos (grid.stride * pitch_y grid.terminal)
+    apart = omega (arith, ints)
+
+pub rises_are : (grid : Slots) (step : ℕ) → step ≡ grid.stride * pitch_y grid.terminal → (k : ℕ) → row_y grid 0 + k * step ≡ row_y grid k
+unfolding row_y
+rises_are grid step is k = omega (arith, ap (λ n. k * n) is)
+
+-- a slot's stripe is in range, and before a number of stripes exactly where the slot is before their slots
+pub stripe_in : (grid : Slots) (slot : ℕ) → slot < slot_count grid → slot / across grid < up grid
+stripe_in grid slot below =
+    (div-lt_iff_lt-mul (some_across (across grid) (up grid) slot below)).1 (omega (arith, mul_comm (across grid) (up grid)))
+
+pub stripe_before : (grid : Slots) (slot count : ℕ) → slot < slot_count grid → (slot / across grid < count) ↔ (slot < count * stripe_of grid)
+stripe_before grid slot count below =
+    subst (λ w. (slot / across grid < count) ↔ (slot < count * w)) (sym (stripe_is grid slot below))
+    (div-lt_iff_lt-mul (some_across (across grid) (up grid) slot below))
+
+-- a stripe of those that there are has slots
+pub stripe_there : (grid : Slots) (stripe : ℕ) → 0 < slot_count grid → stripe < up grid → stripe * stripe_of grid < slot_count grid
+stripe_there grid stripe some below =
+    let wide : 0 < across grid = (both_some (across grid) (up grid) some).0 in
+    let there : stripe * across grid < up grid * across grid =
+    (div-lt_iff_lt-mul wide).0 (subst (λ j. j < up grid) (sym (mul-div_left stripe wide)) below) in
+    subst (λ w. stripe * w < slot_count grid) (sym (stripe_is grid 0 some)) (omega (arith, there, mul_comm (across grid) (up grid)))

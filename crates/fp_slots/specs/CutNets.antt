@@ -50,6 +50,13 @@ IsLeastAt it y floor = (width : ℤ) × IsLeastWidth it width × (pos floor ≡ 
 abbrev pub best_x : CutNet → ℤ
 best_x it = int_max it.top.left it.bottom.left
 
+-- a bounding box and a net with x and y exchanged
+abbrev pub turned_reach : Reach → Reach
+turned_reach reach = record { left = reach.low; right = reach.high; low = reach.left; high = reach.right }
+
+abbrev pub turned : CutNet → CutNet
+turned it = record { net = it.net; top = turned_reach it.top; bottom = turned_reach it.bottom }
+
 -- both bounding boxes are in range
 pub record IsNearNet (it : CutNet) : Type 0 where
   pub top : IsNearReach it.top

@@ -1,6 +1,6 @@
 -- What the costs of slots keep beside their value.
 use Rattle.std.specs.Prelude.{ℕ, ◌*◌, ◌<◌, ◌≤◌, ◌^◌, length, All}
-use Rattle.fp_tech.specs.Slots.{slot_count, slot_limit, centre_of, pitch_x}
+use Rattle.fp_tech.specs.Slots.{slot_count, slot_limit, centre_of, pitch_x, pitch_y}
 use Rattle.fp_score.specs.Reaches.{IsNear}
 use Rattle.fp_slots.specs.declared.slot_costs.SlotCosts.TheInside.{Inside}
 use Rattle.fp_slots.specs.CutNets.{IsNearNet}
@@ -16,3 +16,4 @@ pub record IsKept (costs : Inside) : Type 0 where
   pub few_slots : slot_count costs.grid ≤ slot_limit
   pub near_slots : (slot : ℕ) → slot < slot_count costs.grid → IsNear (centre_of costs.grid slot)
   pub some_step : 0 < costs.grid.stride * pitch_x costs.grid.terminal
+  pub some_rise : 0 < costs.grid.stride * pitch_y costs.grid.terminal

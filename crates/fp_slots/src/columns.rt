@@ -1,12 +1,13 @@
-//! Where the slots of one y stand in x.
+//! Where the slots of one y stand in x, and the stripes in y.
 
 ghost use Rattle.std.specs.Prelude.{◌≡◌, ◌<◌, ◌≤◌, ◌+◌, ◌*◌, ◌↔◌, ℕ};
-ghost use Rattle.fp_tech.specs.Slots.{across, slot_count, column_x, pitch_x};
+ghost use Rattle.fp_tech.specs.Slots.{across, up, slot_count, column_x, row_y, pitch_x, pitch_y};
 
 use fp_base::SlotId;
 use fp_tech::Grid;
 
-/// The columns of a grid in x: so many, the first at `first` and each next one `step` further.
+/// The columns of a grid in x: so many, the first at `first` and each next one `step` further. Or its stripes in y alike, each of
+/// which is a column of the grid turned over.
 #[derive(Clone, Copy)]
 pub(crate) struct Columns {
     pub(crate) count: u32,
@@ -29,6 +30,24 @@ impl Columns {
             count,
             first,
             step: step(grid),
+        }
+    }
+
+    /// The stripes of a grid that has slots.
+    pub(crate) fn stripes_of(grid: &Grid) -> Columns
+        requires slots { 0 < slot_count grid.now }
+        requires some_step { 0 < grid.now.stride * pitch_y grid.now.terminal }
+        ensures count { result.count ≡ up grid.now }
+        ensures some { 0 < result.count }
+        ensures some_step { 0 < result.step }
+        ensures places { (k : ℕ) → k < up grid.now → result.first + k * result.step ≡ row_y grid.now k }
+    {
+        let count = grid.slots() / grid.across();
+        let first = grid.centre(SlotId(0)).y.unsigned_abs();
+        Columns {
+            count,
+            first,
+            step: rise(grid, count),
         }
     }
 
@@ -55,5 +74,21 @@ fn step(grid: &Grid) -> u64
     }
     let first = grid.centre(SlotId(0)).x;
     let second = grid.centre(SlotId(1)).x;
+    second.abs_diff(first)
+}
+
+// How far each stripe stands above the one before, 1 where there is but one.
+fn rise(grid: &Grid, count: u32) -> u64
+    requires slots { 0 < slot_count grid.now }
+    requires count { count ≡ up grid.now }
+    requires some_step { 0 < grid.now.stride * pitch_y grid.now.terminal }
+    ensures some { 0 < result }
+    ensures steps { (k : ℕ) → k < up grid.now → row_y grid.now 0 + k * result ≡ row_y grid.now k }
+{
+    if count < 2 {
+        return 1;
+    }
+    let first = grid.centre(SlotId(0)).y;
+    let second = grid.centre(SlotId(grid.across())).y;
     second.abs_diff(first)
 }

@@ -2,7 +2,7 @@
 
 ghost use Rattle.std.specs.Prelude.{◌≡◌, ◌<◌, ◌≤◌, ◌^◌, ◌≤ℤ◌, ℕ, pos};
 ghost use Rattle.fp_score.specs.Reaches.{IsNear};
-ghost use Rattle.fp_slots.specs.CutNets.{cut_net_of, length_with, fixed_length, best_x, IsNearNet, IsWindow};
+ghost use Rattle.fp_slots.specs.CutNets.{cut_net_of, length_with, fixed_length, best_x, turned, turned_reach, IsNearNet, IsWindow};
 
 use fp_base::{NetId, Point};
 use fp_score::{Reach, Reaches};
@@ -47,6 +47,17 @@ impl CutNet {
         self.top.left.max(self.bottom.left)
     }
 
+    /// The net with x and y exchanged.
+    pub(crate) fn turned(self) -> CutNet
+        ensures { result ≡ turned self }
+    {
+        CutNet {
+            net: self.net,
+            top: turned(self.top),
+            bottom: turned(self.bottom),
+        }
+    }
+
     /// What the net is long with its terminal at that y, without what the terminal's x adds on either die.
     pub(crate) fn fixed_length(self, y: i64) -> u64
         requires net { IsNearNet self }
@@ -80,5 +91,17 @@ impl CutNet {
         let left = self.top.left.max(self.bottom.left).unsigned_abs();
         let right = self.top.right.min(self.bottom.right).unsigned_abs();
         (left + 1).saturating_sub(slack)..right.saturating_add(slack)
+    }
+}
+
+// A bounding box with x and y exchanged.
+fn turned(reach: Reach) -> Reach
+    ensures { result ≡ turned_reach reach }
+{
+    Reach {
+        left: reach.low,
+        right: reach.high,
+        low: reach.left,
+        high: reach.right,
     }
 }

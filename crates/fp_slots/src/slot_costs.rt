@@ -143,4 +143,19 @@ impl Costs for SlotCosts {
         let end = from + columns.before(window.end);
         start..end
     }
+
+    /// The stripes that stand where the row's net may be shorter than the limit with its terminal at the best whole-number x.
+    fn near_stripes(&self, row: u32, limit: u64) -> Range<u32> {
+        let net = self.rows[row as usize];
+        let stripes = Columns::stripes_of(&self.grid);
+        let window = net.turned().window(net.best_x(), limit);
+        stripes.before(window.start)..stripes.before(window.end)
+    }
+
+    /// The first stripe at or past the further one of the low ends of both dies' bounding boxes, or the last one.
+    fn first_stripe(&self, row: u32) -> u32 {
+        let best = self.rows[row as usize].turned().best_x();
+        let stripes = Columns::stripes_of(&self.grid);
+        stripes.before(best.unsigned_abs()).min(stripes.count - 1)
+    }
 }

@@ -2,7 +2,7 @@ use Rattle.std.proofs.Common.{subst, ap, arith, length}
 use Rattle.fp_tech.specs.Plan.{IsPlan}
 use Rattle.fp_place.specs.Placed.{places_of}
 use Rattle.fp_slots.proofs.Rows.{few_cut}
-use Rattle.fp_slots.proofs.SlotLemmas.{centre_near, step_of_grid}
+use Rattle.fp_slots.proofs.SlotLemmas.{centre_near, step_of_grid, rise_of_grid}
 use Rattle.fp_slots.proofs.Tables.{costs_of}
 use Rattle.fp_slots.proofs.slot_costs.SlotCosts.new.Goals as goal
 
@@ -15,6 +15,7 @@ invariant_of-result c =
       few_slots = c.requires.grid.few;
       near_slots = centre_near _ _ _ plan.setup.frame plan.setup.terminal c.requires.grid;
       some_step = step_of_grid _ _ _ plan.setup.terminal c.requires.grid;
+      some_rise = rise_of_grid _ _ _ plan.setup.terminal c.requires.grid;
     }
 
 pub returns : goal.returns
