@@ -7,14 +7,14 @@ use std::process::Abort;
 use std::test::Fail;
 
 /// Two cells of one library cell, which the top die's percent keeps apart.
-const SMALL: &str =
+pub(crate) const SMALL: &str =
     "NumTechnologies 2\nTech TA 1\nLibCell MC1 4 10 1\nPin P1 1 2\nTech TB 1\nLibCell MC1 5 10 1\nPin P1 2 3\n\
 DieSize 0 0 20 20\nTopDieMaxUtil 10\nBottomDieMaxUtil 50\nTopDieRows 0 0 20 10 2\nBottomDieRows 0 0 20 10 2\nTopDieTech TA\n\
 BottomDieTech TB\nTerminalSize 2 2\nTerminalSpacing 1\nNumInstances 2\nInst C1 MC1\nInst C2 MC1\nNumNets 1\nNet N1 2\nPin C1/P1\n\
 Pin C2/P1\n";
 
 /// The small input with other blanks, and its sections in the reverse order.
-const LOOSE: &str =
+pub(crate) const LOOSE: &str =
     "NumTechnologies\t2\r\nTech\tTA\t1\r\nLibCell\tMC1\t4\t10\t1\r\nPin\tP1\t1\t2\r\nTech\tTB\t1\r\n\
 LibCell\tMC1\t5\t10\t1\r\nPin\tP1\t2\t3\r\nTerminalSpacing\t1\r\nTerminalSize\t2\t2\r\nBottomDieTech\tTB\r\nTopDieTech\tTA\r\n\
 BottomDieRows\t0\t0\t20\t10\t2\r\nTopDieRows\t0\t0\t20\t10\t2\r\nBottomDieMaxUtil\t50\r\nTopDieMaxUtil\t10\r\n\
@@ -28,7 +28,7 @@ TopDieMaxUtil 20\nBottomDieMaxUtil 50\nTopDieRows 0 0 20 20 1\nBottomDieRows 0 0
 TerminalSize 2 2\nTerminalSpacing 1\nNumInstances 2\nInst C1 S\nInst C2 H\nNumNets 1\nNet N1 2\nPin C1/P\nPin C2/P\n";
 
 /// The contest's own small case: six cells, three nets, two of them cut.
-const CONTEST: &str =
+pub(crate) const CONTEST: &str =
     "NumTechnologies 2\nTech TA 2\nLibCell MC1 7 10 1\nPin P1 1 2\nLibCell MC2 9 10 2\nPin P1 3 4\nPin P2 6 5\n\
 Tech TB 2\nLibCell MC1 14 15 1\nPin P1 2 3\nLibCell MC2 12 15 2\nPin P1 4 7\nPin P2 8 9\nDieSize 0 0 30 30\nTopDieMaxUtil 40\n\
 BottomDieMaxUtil 90\nTopDieRows 0 0 30 10 3\nBottomDieRows 0 0 30 15 2\nTopDieTech TA\nBottomDieTech TB\nTerminalSize 6 6\n\
@@ -36,23 +36,23 @@ TerminalSpacing 4\nNumInstances 6\nInst C1 MC1\nInst C2 MC2\nInst C3 MC1\nInst C
 Net N1 3\nPin C1/P1\nPin C2/P1\nPin C6/P1\nNet N2 2\nPin C3/P1\nPin C4/P1\nNet N3 3\nPin C4/P2\nPin C5/P2\nPin C2/P2\n";
 
 /// The small input's dies, without cells and nets.
-const EMPTY: &str =
+pub(crate) const EMPTY: &str =
     "NumTechnologies 2\nTech TA 1\nLibCell MC1 4 10 1\nPin P1 1 2\nTech TB 1\nLibCell MC1 5 10 1\nPin P1 2 3\n\
 DieSize 0 0 20 20\nTopDieMaxUtil 10\nBottomDieMaxUtil 50\nTopDieRows 0 0 20 10 2\nBottomDieRows 0 0 20 10 2\nTopDieTech TA\n\
 BottomDieTech TB\nTerminalSize 2 2\nTerminalSpacing 1\nNumInstances 0\nNumNets 0\n";
 
 /// A net of three cells on the top die's one row, with two cells in between that have no net.
-const APART: &str =
+pub(crate) const APART: &str =
     "NumTechnologies 1\nTech T 1\nLibCell W 10 10 1\nPin P 5 5\nDieSize 0 0 50 10\nTopDieMaxUtil 100\nBottomDieMaxUtil 0\n\
 TopDieRows 0 0 50 10 1\nBottomDieRows 0 0 50 10 1\nTopDieTech T\nBottomDieTech T\nTerminalSize 2 2\nTerminalSpacing 1\n\
 NumInstances 5\nInst X1 W\nInst X2 W\nInst F W\nInst G W\nInst Y W\nNumNets 1\nNet N1 3\nPin X1/P\nPin X2/P\nPin Y/P\n";
 
 /// Lines of a text, each with the line that takes its place.
-type Changes = [(&'static str, &'static str); 5];
+pub(crate) type Changes = [(&'static str, &'static str); 5];
 
 const NONE: (&str, &str) = ("", "");
 
-const UNCHANGED: Changes = [NONE, NONE, NONE, NONE, NONE];
+pub(crate) const UNCHANGED: Changes = [NONE, NONE, NONE, NONE, NONE];
 
 /// The small input without nets.
 const NO_NETS: Changes = [
@@ -82,7 +82,7 @@ const THREE_NETS: Changes = [
 ];
 
 /// The small input with room for one cell on its bottom die, so that no trial follows its seed.
-const ONE_PLACE: Changes = [
+pub(crate) const ONE_PLACE: Changes = [
     ("BottomDieRows 0 0 20 10 2", "BottomDieRows 0 0 8 10 1"),
     NONE,
     NONE,
@@ -91,7 +91,7 @@ const ONE_PLACE: Changes = [
 ];
 
 /// The small input with its top die full by its rows, and not by its percent.
-const NARROW: Changes = [
+pub(crate) const NARROW: Changes = [
     ("TopDieMaxUtil 10", "TopDieMaxUtil 100"),
     ("TopDieRows 0 0 20 10 2", "TopDieRows 0 0 7 10 1"),
     NONE,
@@ -100,7 +100,7 @@ const NARROW: Changes = [
 ];
 
 /// The small input with terminals that cost more than the cells' way to each other.
-const COSTLY: Changes = [
+pub(crate) const COSTLY: Changes = [
     ("TerminalSpacing 1", "TerminalSpacing 1\nTerminalCost 7"),
     NONE,
     NONE,
@@ -109,7 +109,7 @@ const COSTLY: Changes = [
 ];
 
 /// The small input with a blockage in the corner where its second cell would stand.
-const BLOCKED: Changes = [
+pub(crate) const BLOCKED: Changes = [
     (
         "TerminalSpacing 1",
         "TerminalSpacing 1\nNumBlockages 1\nBlockage Bottom 3 0 6 10",
@@ -124,11 +124,8 @@ const BLOCKED: Changes = [
 const SPACING: &str = "TerminalSpacing 1";
 
 /// The output of the small input.
-const PLACED: &str =
+pub(crate) const PLACED: &str =
     "TopDiePlacement 1\nInst C1 0 0\nBottomDiePlacement 1\nInst C2 0 0\nNumTerminals 1\nTerminal N1 2 2\n";
-
-/// The report of the small input's placement.
-const PLACED_REPORT: &str = "seed 2\ntrial 0 start 2\ntrial 1 kept 5\nscore 2\n";
 
 /// The output of the contest's case.
 const CONTEST_PLACED: &str =
@@ -149,7 +146,11 @@ fn push_lines(input: &mut String, text: &str, changes: &[(&str, &str)]) -> Resul
 }
 
 /// A text with its lines changed.
-fn with_changes(alloc: Global, text: &str, changes: &[(&str, &str)]) -> Result<String, AllocError> {
+pub(crate) fn with_changes(
+    alloc: Global,
+    text: &str,
+    changes: &[(&str, &str)],
+) -> Result<String, AllocError> {
     let mut input = String::new(alloc);
     let pushed = push_lines(&mut input, text, changes);
     match pushed {
@@ -171,17 +172,17 @@ fn push_words(alloc: Global, words: &mut Vec<String>, line: &str) -> Result<(), 
 
 /// A run: its command line, what it finds in the files `a` and `o`, and the numbers of the calls that fail.
 #[derive(Clone, Copy)]
-struct Trial<'t> {
-    line: &'t str,
-    input: Option<&'t str>,
-    output: Option<&'t str>,
-    folder_fails: &'t [u64],
-    sink_fails: &'t [u64],
+pub(crate) struct Trial<'t> {
+    pub(crate) line: &'t str,
+    pub(crate) input: Option<&'t str>,
+    pub(crate) output: Option<&'t str>,
+    pub(crate) folder_fails: &'t [u64],
+    pub(crate) sink_fails: &'t [u64],
 }
 
 impl<'t> Trial<'t> {
     /// A run over these files in which no call fails.
-    fn new(line: &'t str, input: Option<&'t str>, output: Option<&'t str>) -> Trial<'t> {
+    pub(crate) fn new(line: &'t str, input: Option<&'t str>, output: Option<&'t str>) -> Trial<'t> {
         Trial {
             line,
             input,
@@ -194,10 +195,10 @@ impl<'t> Trial<'t> {
 
 /// How a run ended: the status, and the sink and the folder afterwards.
 #[derive(Drop)]
-struct Ended {
-    status: u8,
-    out: MemSink,
-    folder: MemFolder,
+pub(crate) struct Ended {
+    pub(crate) status: u8,
+    pub(crate) out: MemSink,
+    pub(crate) folder: MemFolder,
 }
 
 /// The folder that a run finds.
@@ -232,7 +233,7 @@ fn run_words(alloc: Global, words: &[String], trial: &Trial<'_>) -> Result<Ended
 }
 
 /// A run of a command line.
-fn run_line(alloc: Global, trial: &Trial<'_>) -> Result<Ended, Fail> {
+pub(crate) fn run_line(alloc: Global, trial: &Trial<'_>) -> Result<Ended, Fail> {
     let mut words = Vec::new(alloc);
     let ended = match push_words(alloc, &mut words, trial.line) {
         Ok(()) => run_words(alloc, words.as_slice(), trial),
@@ -790,176 +791,4 @@ fn a_sink_that_fails_leaves_the_output_whole(rt: HostRuntime) -> Result<(), Fail
         sink_fails: &[0],
     };
     expect_run(&rt, rt.alloc(), &trial, 6, "", Some(PLACED))
-}
-
-/// A placement is done, with this report and this output, and its certificate begins and ends so.
-fn expect_placed(
-    rt: &impl Abort,
-    alloc: Global,
-    trial: &Trial<'_>,
-    report: &str,
-    output: &str,
-    cert: (&str, &str),
-) -> Result<(), Fail> {
-    let end = run_line(alloc, trial)?;
-    assert!(rt; end.status == 0, "{report}");
-    assert!(rt; end.out.written() == report.as_bytes(), "{report}");
-    assert!(rt; end.folder.file("o") == Some(output.as_bytes()), "{report}");
-    let written = end.folder.file("c").unwrap_or(b"");
-    assert!(rt; written.starts_with(cert.0.as_bytes()), "{report}");
-    assert!(rt; written.ends_with(cert.1.as_bytes()), "{report}");
-    drop(end);
-    Ok(())
-}
-
-/// A placement of a text with its lines changed.
-fn expect_place(
-    rt: &impl Abort,
-    alloc: Global,
-    text: &str,
-    changes: &Changes,
-    report: &str,
-    output: &str,
-    cert: (&str, &str),
-) -> Result<(), Fail> {
-    let input = with_changes(alloc, text, changes.as_slice())?;
-    let trial = Trial::new("place a o c", Some(input.as_str()), None);
-    let done = expect_placed(rt, alloc, &trial, report, output, cert);
-    drop(input);
-    done
-}
-
-#[test]
-fn places_the_small_input(rt: HostRuntime) -> Result<(), Fail> {
-    let head = "FaceplaceCert 1\nLimit 3\nTrials 2\n";
-    for line in ["place a o c", "place a o c 03"] {
-        let trial = Trial::new(line, Some(SMALL), None);
-        expect_placed(
-            &rt,
-            rt.alloc(),
-            &trial,
-            PLACED_REPORT,
-            PLACED,
-            (head, "Answer 0\n"),
-        )?;
-    }
-    Ok(())
-}
-
-#[test]
-fn places_no_worse_than_the_seed(rt: HostRuntime) -> Result<(), Fail> {
-    let head = "FaceplaceCert 1\nLimit 3\nTrials 2\n";
-    for (text, changes, report, output, tail) in [
-        (
-            EMPTY,
-            UNCHANGED,
-            "seed 0\ntrial 0 start 0\ntrial 1 kept 0\nscore 0\n",
-            "TopDiePlacement 0\nBottomDiePlacement 0\nNumTerminals 0\n",
-            "Answer 0\n",
-        ),
-        (LOOSE, UNCHANGED, PLACED_REPORT, PLACED, "Answer 0\n"),
-        (SMALL, NARROW, PLACED_REPORT, PLACED, "Answer 0\n"),
-        (
-            SMALL,
-            ONE_PLACE,
-            "seed 2\ntrial 0 start 2\ntrial 1 norow C2\nscore 2\n",
-            PLACED,
-            "Trial 1 norow 1\nTopCells 0\nAnswer 0\n",
-        ),
-    ] {
-        let cert = (head, tail);
-        expect_place(&rt, rt.alloc(), text, &changes, report, output, cert)?;
-    }
-    Ok(())
-}
-
-#[test]
-fn places_better_than_the_seed(rt: HostRuntime) -> Result<(), Fail> {
-    for (text, changes, report, output, head) in [
-        (
-            APART,
-            UNCHANGED,
-            "seed 40\ntrial 0 start 40\ntrial 1 better 20\ntrial 2 kept 20\nscore 20\n",
-            "TopDiePlacement 5\nInst X1 20 0\nInst X2 0 0\nInst F 30 0\nInst G 40 0\nInst Y 10 0\nBottomDiePlacement 0\nNumTerminals 0\n",
-            "FaceplaceCert 1\nLimit 3\nTrials 3\n",
-        ),
-        (
-            SMALL,
-            COSTLY,
-            "seed 9\ntrial 0 start 9\ntrial 1 better 5\ntrial 2 kept 5\nscore 5\n",
-            "TopDiePlacement 0\nBottomDiePlacement 2\nInst C1 5 0\nInst C2 0 0\nNumTerminals 0\n",
-            "FaceplaceCert 2\nCost 7\nLimit 3\n",
-        ),
-        (
-            SMALL,
-            BLOCKED,
-            "seed 8\ntrial 0 start 8\ntrial 1 better 5\ntrial 2 kept 5\nscore 5\n",
-            "TopDiePlacement 0\nBottomDiePlacement 2\nInst C1 11 0\nInst C2 6 0\nNumTerminals 0\n",
-            "FaceplaceCert 1\nLimit 3\n",
-        ),
-    ] {
-        let cert = (head, "Answer 1\n");
-        expect_place(&rt, rt.alloc(), text, &changes, report, output, cert)?;
-    }
-    Ok(())
-}
-
-/// The score on the last line of a report.
-fn last_score(report: &[u8]) -> Option<u64> {
-    let text = str::from_utf8(report).ok()?;
-    let line = text.lines().last()?;
-    line.strip_prefix("score ")?.parse().ok()
-}
-
-#[test]
-fn places_the_contest_case_no_worse_than_its_first_trial(rt: HostRuntime) -> Result<(), Fail> {
-    let trial = Trial::new("place a o c", Some(CONTEST), None);
-    let end = run_line(rt.alloc(), &trial)?;
-    let report = end.out.written();
-    assert!(&rt; end.status == 0);
-    assert!(&rt; report.starts_with(b"seed 83\ntrial 0 start 74\ntrial 1 "));
-    assert!(&rt; last_score(report).is_some_and(|score| score <= 74));
-    drop(end);
-    Ok(())
-}
-
-/// A placement of the small input whose device fails at such calls ends with 6 and prints nothing; its output is whole, and its certificate
-/// is this one, where that is told.
-fn expect_failed<'f>(
-    rt: &impl Abort,
-    alloc: Global,
-    folder_fails: &'f [u64],
-    sink_fails: &'f [u64],
-    cert: Option<&[u8]>,
-) -> Result<(), Fail> {
-    let trial = Trial {
-        line: "place a o c",
-        input: Some(SMALL),
-        output: None,
-        folder_fails,
-        sink_fails,
-    };
-    let end = run_line(alloc, &trial)?;
-    assert!(rt; end.status == 6);
-    assert!(rt; end.out.written().is_empty());
-    assert!(rt; end.folder.file("o") == Some(PLACED.as_bytes()));
-    assert!(rt; cert.is_none() || end.folder.file("c") == cert);
-    drop(end);
-    Ok(())
-}
-
-/// What fails behind a run that was whole: the folder's last call, or the sink's first.
-fn expect_failures(rt: &impl Abort, alloc: Global, whole: &Ended) -> Result<(), Fail> {
-    let last = whole.folder.calls().saturating_sub(1);
-    expect_failed(rt, alloc, &[last], &[], None)?;
-    expect_failed(rt, alloc, &[], &[0], whole.folder.file("c"))
-}
-
-#[test]
-fn a_device_that_fails_last_leaves_what_was_written_before(rt: HostRuntime) -> Result<(), Fail> {
-    let trial = Trial::new("place a o c", Some(SMALL), None);
-    let whole = run_line(rt.alloc(), &trial)?;
-    let done = expect_failures(&rt, rt.alloc(), &whole);
-    drop(whole);
-    done
 }
