@@ -7,3 +7,4 @@ pub mod Trials
 pub mod CutLinesLaws
 pub mod RowsLaws
 pub mod Certified
+pub mod OfProblem
