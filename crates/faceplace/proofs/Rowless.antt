@@ -18,7 +18,7 @@ use Rattle.fp_cert.specs.declared.shown.Ending.TheVariants.{Better, NotBetter}
 use Rattle.fp_cert.specs.Shown.{ShownTrial, ShownRun}
 use Rattle.fp_cert.specs.Standing.{dies_shown}
 use Rattle.fp_cert.specs.Trials.{IsStart, IsStep, IsChain, Does, no_trial}
-use Rattle.faceplace.specs.Trials.{IsEndingOf, AreTrialsOf}
+use Rattle.faceplace.specs.TrialCells.{IsEndingOf, AreTrialsOf}
 
 -- what holds of each number holds of each in order
 put_all : (P : ℕ → Type 0) (key : ℕ → ℤ) (n : ℕ) (xs : List ℕ) → P n → All P xs → All P (put_by key n xs)

@@ -9,6 +9,7 @@ pub mod Input
 pub mod Seeding
 pub mod Drawn
 pub mod Trials
+pub mod TrialCells
 pub mod Outcome
 pub mod Due
 pub mod Owed

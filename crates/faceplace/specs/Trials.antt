@@ -1,5 +1,5 @@
 -- What `place` reports: the score of the seed, how each trial ended, and the score of the answer.
-use Rattle.std.specs.Prelude.{◌≡◌, ℕ, ◌+◌, ◌<◌, List, [], ◌∷◌, ◌++◌, length, unwrap_or, slice_get, Some, codes, decimal}
+use Rattle.std.specs.Prelude.{ℕ, ◌+◌, List, [], ◌∷◌, ◌++◌, unwrap_or, slice_get, codes, decimal}
 use Rattle.fp_netlist.specs.Netlist.{Netlist, cell_names}
 use Rattle.fp_cert.specs.declared.shown.Ending.{Ending}
 use Rattle.fp_cert.specs.declared.shown.Ending.TheVariants.{Start, Better, NotBetter, NoRow}
@@ -30,13 +30,3 @@ trial_lines p number (trial ∷ trials) = trial_line p number trial ++ trial_lin
 -- `seed S`, the trials, and `score S`
 abbrev pub place_report : Netlist → ℕ → ShownRun → List ℕ
 place_report p seed_score run = codes "seed " ++ decimal seed_score ++ codes "\n" ++ trial_lines p 0 run.trials ++ score_report (answer_of run).score
-
--- a cell without a row is one of the problem
-abbrev pub IsEndingOf : Netlist → Ending → Type 0
-IsEndingOf p Start = Unit {0}
-IsEndingOf p Better = Unit {0}
-IsEndingOf p NotBetter = Unit {0}
-IsEndingOf p (NoRow cell) = cell.0 < length p.cells
-
-abbrev pub AreTrialsOf : Netlist → List ShownTrial → Type 0
-AreTrialsOf p trials = (number : ℕ) (trial : ShownTrial) → slice_get trials number ≡ Some trial → IsEndingOf p trial.ending

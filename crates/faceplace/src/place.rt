@@ -4,7 +4,7 @@ ghost use Rattle.std.specs.Prelude.{◌≡◌, ◌≤◌, ℕ, Option, Some, Ok}
 ghost use Rattle.fp_place.specs.Placed.{IsPlacementOf};
 ghost use Rattle.fp_flow.specs.Outcomes.{FlowGives};
 ghost use Rattle.faceplace.specs.Request.{Asked, Place};
-ghost use Rattle.faceplace.specs.Trials.{AreTrialsOf};
+ghost use Rattle.faceplace.specs.TrialCells.{AreTrialsOf};
 ghost use Rattle.faceplace.specs.Due.{placing, IsDue};
 ghost use Rattle.faceplace.specs.Status.{code_of};
 ghost use Rattle.faceplace.specs.Run.{outside, EndsAs, EndsForProblem};

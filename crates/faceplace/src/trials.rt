@@ -2,7 +2,8 @@
 
 ghost use Rattle.std.specs.Prelude.{◌≡◌, ◌++◌, IfOk, codes};
 ghost use Rattle.fp_cert.specs.Trials.{answer_of};
-ghost use Rattle.faceplace.specs.Trials.{scored_text, ending_text, trial_line, trial_lines, place_report, IsEndingOf, AreTrialsOf};
+ghost use Rattle.faceplace.specs.Trials.{scored_text, ending_text, trial_line, trial_lines, place_report};
+ghost use Rattle.faceplace.specs.TrialCells.{IsEndingOf, AreTrialsOf};
 
 use crate::report::score_report;
 use fp_cert::{Ending, Run, Trial};

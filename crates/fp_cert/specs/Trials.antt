@@ -76,16 +76,20 @@ pub record IsAt (seat : Seat) (spot : Spot) : Type 0 where
   pub x_is : spot.x ≡ seat.x
 
 -- the seed's cells on their segments in order of x, each with its own place as target
-pub record IsStart (p : Netlist) (grid : Slots) (trial : ShownTrial) : Type 0 where
-  pub ending_is : trial.ending ≡ Start
+pub record IsFromSeed (p : Netlist) (grid : Slots) (trial : ShownTrial) : Type 0 where
   pub first : Die
   pub seats : List Seat
   pub seed : IsSeed p (slot_count grid) first seats
-  pub lanes : (die : Die) → length (rows_of trial die) ≡ length (segments p.plan die)
-  pub once : StandOnce (length p.cells) (lanes_shown trial Top) (lanes_shown trial Bottom)
   pub seated : (cell : ℕ) → cell < length p.cells → IsAt (get_or seats cell no_seat) (spot_at (spots_shown p trial) cell)
   pub in_order : IsInOrder p (placed_shown p grid trial)
   pub targets_are : targets_shown p trial ≡ map corner (places_shown p trial)
+
+-- each of the seed's cells once, and the best terminals
+pub record IsStart (p : Netlist) (grid : Slots) (trial : ShownTrial) : Type 0 where
+  pub ending_is : trial.ending ≡ Start
+  pub lanes : (die : Die) → length (rows_of trial die) ≡ length (segments p.plan die)
+  pub once : StandOnce (length p.cells) (lanes_shown trial Top) (lanes_shown trial Bottom)
+  pub from_seed : IsFromSeed p grid trial
   pub scored : IsScored p grid trial
 
 -- ---- each next one
@@ -134,19 +138,23 @@ unfoldable pub last_better : ℕ → ℕ → List ShownTrial → ℕ
 last_better number last [] = last
 last_better number last (trial ∷ trials) = last_better (number + 1) (if is_better trial.ending then number else last) trials
 
--- The run of a limit: at least two trials and at most the limit beside the first; each but the first and the last is better than its base,
--- and the last one is not better where fewer were made. The answer is the last that is better, or the first.
-pub record IsChain (p : Netlist) (grid : Slots) (limit : ℕ) (run : ShownRun) : Type 0 where
-  pub limit_is : run.limit ≡ limit
-  pub cost_is : run.cost ≡ p.plan.terminal.cost
+-- At least two trials and at most a limit beside the first; each but the first and the last is better than its base, and the last one is
+-- not better where fewer were made. The answer is the last that is better, or the first.
+pub record GoesOn (limit : ℕ) (run : ShownRun) : Type 0 where
   pub some : 2 ≤ length run.trials
   pub few : length run.trials ≤ limit + 1
-  pub start : (trial : ShownTrial) → slice_get run.trials 0 ≡ Some trial → IsStart p grid trial
-  pub steps : (number : ℕ) (base trial : ShownTrial) → slice_get run.trials number ≡ Some base → slice_get run.trials (number + 1) ≡ Some trial
-      → IsStep p grid base trial
   pub goes_on : (number : ℕ) (trial : ShownTrial) → 1 ≤ number → number + 1 < length run.trials → slice_get run.trials number ≡ Some trial → trial.ending ≡ Better
   pub stops : (number : ℕ) (trial : ShownTrial) → number + 1 ≡ length run.trials → number < limit → slice_get run.trials number ≡ Some trial → trial.ending ≢ Better
   pub answer_is : run.answer ≡ last_better 0 0 run.trials
+
+-- The run of a limit: the first trial is the seed's, and each next one is made of the one before it.
+pub record IsChain (p : Netlist) (grid : Slots) (limit : ℕ) (run : ShownRun) : Type 0 where
+  pub limit_is : run.limit ≡ limit
+  pub cost_is : run.cost ≡ p.plan.terminal.cost
+  pub going : GoesOn limit run
+  pub start : (trial : ShownTrial) → slice_get run.trials 0 ≡ Some trial → IsStart p grid trial
+  pub steps : (number : ℕ) (base trial : ShownTrial) → slice_get run.trials number ≡ Some base → slice_get run.trials (number + 1) ≡ Some trial
+      → IsStep p grid base trial
 
 pub record Chain (p : Netlist) (limit : ℕ) (run : ShownRun) : Type 0 where
   pub grid : Slots

@@ -20,7 +20,7 @@ use Rattle.fp_score.specs.Pick.{Taken, sorted_by, point_at, in_order, lanes_by}
 use Rattle.fp_coarse.specs.declared.order.Choice.{Choice}
 use Rattle.fp_coarse.specs.Orders.{taken_as, taken_of, entry_by, target_cmp, AreByTarget}
 use Rattle.fp_coarse.specs.Picking.{IsChoice}
-use Rattle.fp_coarse.proofs.Sorting.{Goes, GoesBefore, Ranked, entries_ranked, goes_by, not_less, rising_ranked, numbers_ranked, same_ranked, sort_sum, sum_by-map, sum_by-filter}
+use Rattle.fp_coarse.specs.SortingLaws.{Goes, GoesBefore, Ranked, entries_ranked, goes_by, not_less, rising_ranked, numbers_ranked, same_ranked, sort_sum, sum_by-map, sum_by-filter}
 
 abbrev Entry : Type 0
 Entry = ℤ × ℕ × ℕ

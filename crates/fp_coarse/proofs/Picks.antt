@@ -9,8 +9,8 @@ use Rattle.fp_netlist.specs.Netlist.{Netlist, IsSound}
 use Rattle.fp_place.specs.Placed.{LaneList}
 use Rattle.fp_score.specs.Pick.{Taken, Lined, widest_first, pick_on, lanes_by, after_both, picked}
 use Rattle.fp_coarse.specs.Picking.{PicksOn, HoldAll}
-use Rattle.fp_coarse.proofs.Holding.{taken_on, hold_all, stuck_within}
-use Rattle.fp_coarse.proofs.Rows.{rows_are}
+use Rattle.fp_coarse.specs.HoldingLaws.{taken_on, hold_all, stuck_within}
+use Rattle.fp_coarse.specs.SegmentsLaws.{rows_are}
 use Rattle.fp_coarse.proofs.Widest.{widest_within}
 
 pub picks_same : (p : Netlist) (dies : List Die) (targets : List Point) (die : Die) (r s : Result LaneList CellId) → r ≡ s → PicksOn p dies targets die r → PicksOn p dies targets die s

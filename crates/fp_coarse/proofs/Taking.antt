@@ -21,7 +21,7 @@ use Rattle.fp_coarse.specs.Rooms.{lengths, has_free}
 use Rattle.fp_coarse.specs.Nearest.{cost_at, AreSegments, AreFree}
 use Rattle.fp_coarse.specs.Orders.{numbers_of, taken_as, taken_of}
 use Rattle.fp_coarse.specs.Picking.{AreLeft, IsNearest, lowered}
-use Rattle.fp_coarse.proofs.Firsts.{least_is, least_once, least_alike}
+use Rattle.fp_coarse.specs.FirstsLaws.{least_is, least_once, least_alike}
 
 -- a segment is open where its free length holds the cell
 same_test : (used width : ℕ) (free long : ℤ) → free ≡ long -ℤ pos used → int_le (pos (used + width)) long ≡ int_le (pos width) free

@@ -18,7 +18,7 @@ use Rattle.fp_netlist.specs.Points.{width}
 use Rattle.fp_place.specs.Places.{die_at, same_die}
 use Rattle.fp_score.specs.Pick.{sorted_by, cells_on, widest_first}
 use Rattle.fp_coarse.specs.Orders.{numbers_of, entry_on, entries_on}
-use Rattle.fp_coarse.proofs.Sorting.{Goes, entries_ranked, goes_by, rising_ranked, range_ranked, same_ranked, sort_sum, sort_all, sum_by-map}
+use Rattle.fp_coarse.specs.SortingLaws.{Goes, entries_ranked, goes_by, rising_ranked, range_ranked, same_ranked, sort_sum, sort_all, sum_by-map}
 
 abbrev number_of : ℤ × ℕ → ℕ
 number_of entry = entry.1

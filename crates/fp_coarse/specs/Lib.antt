@@ -1,4 +1,7 @@
+pub mod CountingLaws
 pub mod EndsOfNets
+pub mod FirstsLaws
+pub mod HoldingLaws
 pub mod MedianLaws
 pub mod Medians
 pub mod Nearest
@@ -6,5 +9,7 @@ pub mod Orders
 pub mod Picking
 pub mod PickingLaws
 pub mod Rooms
+pub mod SegmentsLaws
+pub mod SortingLaws
 pub mod Targets
 pub mod TargetsLaws

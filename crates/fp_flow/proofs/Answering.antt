@@ -120,7 +120,7 @@ placed_is p grid limit placed run answer total sound is_grid can is from = recor
       from.whole.base.scored.score_is ∙ ap (λ (pl : Placed). score p (places_of pl) pl.terminals) from.whole.base.shown;
   at_most_seed =
       let first = get_or run.trials 0 no_trial in
-      let at = slice_get-get_or run.trials 0 no_trial (omega (arith, from.whole.chain.some)) in
+      let at = slice_get-get_or run.trials 0 no_trial (omega (arith, from.whole.chain.going.some)) in
       let start = from.whole.chain.start first at in
       let least = from.whole.least 0 first at (ap has_rows start.ending_is) in
       omega (arith, least, first_most p grid limit placed run answer total first can is from at);

@@ -24,7 +24,8 @@ use Rattle.fp_cert.specs.Shown.{ShownTrial, ShownRun, with_trial}
 use Rattle.fp_cert.specs.Standing.{dies_shown}
 use Rattle.fp_cert.specs.Trials.{is_better, Does, IsStart, IsStep, last_better, no_trial, answer_of}
 use Rattle.fp_flow.specs.Bases.{IsBase}
-use Rattle.fp_flow.specs.Chains.{AreCertified, IsAdded, IsBegun, IsGoing, IsWhole}
+use Rattle.fp_flow.specs.Chains.{IsAdded, IsBegun, IsGoing, IsWhole}
+use Rattle.fp_flow.specs.Outcomes.{AreCertified}
 use Rattle.fp_flow.specs.Steps.{IsNext}
 use Rattle.fp_flow.proofs.Firsts.{dies_placed}
 
@@ -168,17 +169,19 @@ ends_kept p grid dies limit run answer base trial going at is few = record {
   chain = record {
     limit_is = going.limit_is;
     cost_is = going.cost_is;
-    some = omega (arith, going.answer_is, length-append run.trials (trial ∷ []));
-    few = omega (arith, going.answer_is, few, length-append run.trials (trial ∷ []));
+    going = record {
+      some = omega (arith, going.answer_is, length-append run.trials (trial ∷ []));
+      few = omega (arith, going.answer_is, few, length-append run.trials (trial ∷ []));
+      goes_on = λ number it some more it_at. going.better number it some (sym (slice_get-front run.trials trial number (omega (arith, more, length-append run.trials (trial ∷ [])))) ∙ it_at);
+      stops = λ number it ends less it_at.
+          let newest : trial ≡ it =
+          same_Some trial it (sym (slice_get-last run.trials trial) ∙ ap (slice_get (run.trials ++ trial ∷ [])) (omega (arith, ends, length-append run.trials (trial ∷ []))) ∙ it_at) in
+          not_better it.ending (is.comes.better_is ∙ ap (λ (t : ShownTrial). is_better t.ending) newest);
+      answer_is =
+          going.last_is ∙ sym (last_more 0 0 run.trials trial ∙ ap (λ b. if b then 0 + length run.trials else last_better 0 0 run.trials) (sym is.comes.better_is));
+    };
     start = λ first first_at. going.start first (sym (slice_get-front run.trials trial 0 (omega (arith, going.answer_is))) ∙ first_at);
     steps = steps_more p grid run.trials trial base run.answer going.answer_is at is.step going.steps;
-    goes_on = λ number it some more it_at. going.better number it some (sym (slice_get-front run.trials trial number (omega (arith, more, length-append run.trials (trial ∷ [])))) ∙ it_at);
-    stops = λ number it ends less it_at.
-        let newest : trial ≡ it =
-        same_Some trial it (sym (slice_get-last run.trials trial) ∙ ap (slice_get (run.trials ++ trial ∷ [])) (omega (arith, ends, length-append run.trials (trial ∷ []))) ∙ it_at) in
-        not_better it.ending (is.comes.better_is ∙ ap (λ (t : ShownTrial). is_better t.ending) newest);
-    answer_is =
-        going.last_is ∙ sym (last_more 0 0 run.trials trial ∙ ap (λ b. if b then 0 + length run.trials else last_better 0 0 run.trials) (sym is.comes.better_is));
   };
   certified = certified_more p grid run trial going.certified is.comes.certified;
   base = subst (λ (t : ShownTrial). IsBase p grid t answer) (sym answers) (going.last base at);
@@ -205,13 +208,15 @@ ends_full p grid dies limit run answer going full some = record {
   chain = record {
     limit_is = going.limit_is;
     cost_is = going.cost_is;
-    some = omega (arith, going.answer_is, full, some);
-    few = omega (arith, going.answer_is, full);
+    going = record {
+      some = omega (arith, going.answer_is, full, some);
+      few = omega (arith, going.answer_is, full);
+      goes_on = λ number it some more it_at. going.better number it some it_at;
+      stops = λ number it ends less it_at. absurd (omega (arith, ends, less, going.answer_is, full));
+      answer_is = going.last_is;
+    };
     start = going.start;
     steps = going.steps;
-    goes_on = λ number it some more it_at. going.better number it some it_at;
-    stops = λ number it ends less it_at. absurd (omega (arith, ends, less, going.answer_is, full));
-    answer_is = going.last_is;
   };
   certified = going.certified;
   base = going.last (answer_of run) at;

@@ -174,14 +174,16 @@ pub first_is : (p : Netlist) (grid : Slots) (placed slotted : Placed) (filled : 
 first_is p grid placed slotted filled total plan is_grid is agree order rules seed s score_is = record {
   start = record {
     ending_is = refl;
-    first = seed.first;
-    seats = seed.seats;
-    seed = seed.seed;
     lanes = long;
     once = once_shown;
-    seated = λ cell below. subst (λ (spots : List Spot). IsAt (get_or seed.seats cell no_seat) (spot_at spots cell)) (sym spots) (seat_at placed seed.seats cell seed.seated.seats_are (omega (arith, below, is.cells)));
-    in_order = subst (IsInOrder p) (sym (shown ∙ s.slotted_is)) order;
-    targets_are = targets ∙ ap (λ (spots : List Spot). map corner (map place_of spots)) (sym spots);
+    from_seed = record {
+      first = seed.first;
+      seats = seed.seats;
+      seed = seed.seed;
+      seated = λ cell below. subst (λ (spots : List Spot). IsAt (get_or seed.seats cell no_seat) (spot_at spots cell)) (sym spots) (seat_at placed seed.seats cell seed.seated.seats_are (omega (arith, below, is.cells)));
+      in_order = subst (IsInOrder p) (sym (shown ∙ s.slotted_is)) order;
+      targets_are = targets ∙ ap (λ (spots : List Spot). map corner (map place_of spots)) (sym spots);
+    };
     scored = scored;
   };
   base = record {

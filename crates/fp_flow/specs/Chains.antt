@@ -16,9 +16,7 @@ use Rattle.fp_cert.specs.Standing.{places_shown}
 use Rattle.fp_cert.specs.Trials.{IsStart, IsStep, last_better, IsChain, answer_of}
 use Rattle.fp_flow.specs.Bases.{IsBase}
 use Rattle.fp_flow.specs.Firsts.{IsSeedPlaced}
-
-abbrev pub AreCertified : Netlist → Slots → ShownRun → Type 0
-AreCertified p grid run = (number : ℕ) (trial : ShownTrial) → slice_get run.trials number ≡ Some trial → has_rows trial.ending ≡ true → IsCertified p grid trial
+use Rattle.fp_flow.specs.Outcomes.{AreCertified}
 
 -- a placement that is the seed's, from which a run begins
 pub record CanStart (p : Netlist) (grid : Slots) (placed : Placed) : Type 0 where

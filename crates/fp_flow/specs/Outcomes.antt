@@ -8,14 +8,19 @@ use Rattle.fp_place.specs.Legal.{IsLegal}
 use Rattle.fp_place.specs.Placed.{Placed, drawn_of, places_of, IsPlacementOf}
 use Rattle.fp_score.specs.FirstFit.{Seat, seat_dies, seat_places, fit_terminals, first_fit, IsSeed}
 use Rattle.fp_score.specs.Score.{score}
+use Rattle.fp_cert.specs.Certified.{IsCertified}
 use Rattle.fp_cert.specs.Endings.{has_rows}
+use Rattle.fp_cert.specs.OfProblem.{IsRunOf}
 use Rattle.fp_cert.specs.Shown.{ShownTrial, ShownRun}
 use Rattle.fp_cert.specs.Standing.{placed_shown}
 use Rattle.fp_cert.specs.Trials.{IsChain, answer_of}
-use Rattle.fp_flow.specs.Chains.{AreCertified}
 use Rattle.fp_flow.specs.declared.placing.FlowFault.{FlowFault}
 use Rattle.fp_flow.specs.declared.placing.FlowFault.TheVariants.{Unfit, Memory}
 use Rattle.fp_flow.specs.declared.placing.Outcome.{Outcome}
+
+-- each trial that placed its cells has duals and prices that show it
+abbrev pub AreCertified : Netlist → Slots → ShownRun → Type 0
+AreCertified p grid run = (number : ℕ) (trial : ShownTrial) → slice_get run.trials number ≡ Some trial → has_rows trial.ending ≡ true → IsCertified p grid trial
 
 -- a problem's grid and its seed, of this score
 pub record IsSeedOf (p : Netlist) (grid : Slots) (total : ℕ) : Type 0 where
@@ -24,11 +29,12 @@ pub record IsSeedOf (p : Netlist) (grid : Slots) (total : ℕ) : Type 0 where
   pub seed : IsSeed p (slot_count grid) first seats
   pub total_is : pos total ≡ score p (seat_places p.plan seats) (fit_terminals p grid (seat_dies seats))
 
--- The run of a problem and a limit, each full trial with duals and prices that show it; the score of its seed; and the placement of its
+-- The run of a problem and a limit, each full trial with duals and prices that show it, all in range; the score of its seed; and the placement of its
 -- answer, which is legal, has the answer's score, and scores no more than the seed and than each trial that placed its cells.
 pub record IsPlaced (p : Netlist) (limit : ℕ) (grid : Slots) (run : ShownRun) (seed_score : ℕ) (answer : Placed) : Type 0 where
   pub grid_is : IsGrid p.plan.frame p.plan.terminal grid
   pub chain : IsChain p grid limit run
+  pub run_of_problem : IsRunOf p (slot_count grid) run
   pub certified : AreCertified p grid run
   pub seed : IsSeedOf p grid seed_score
   pub answer_is : answer ≡ placed_shown p grid (answer_of run)

@@ -8,7 +8,7 @@ use Rattle.fp_coarse.specs.Nearest.{AreSegments, IsHull}
 use Rattle.fp_coarse.specs.Orders.{taken_of, numbers_of}
 use Rattle.fp_coarse.specs.Picking.{AreLeft, IsChoice}
 use Rattle.fp_coarse.specs.Rooms.{lengths}
-use Rattle.fp_coarse.proofs.Rows.{rows_are}
+use Rattle.fp_coarse.specs.SegmentsLaws.{rows_are}
 use Rattle.fp_coarse.proofs.Taking.{nearest_is, take_step, take_none, take_end, left_first, left_more, left_free, first_of, none_left, taken_push}
 use Rattle.fp_coarse.proofs.picking.take_all.Goals as goal
 

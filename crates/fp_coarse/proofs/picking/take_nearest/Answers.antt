@@ -1,6 +1,6 @@
 use Rattle.std.proofs.Common.{sym, subst}
 use Rattle.fp_coarse.specs.Nearest.{AreSegments}
-use Rattle.fp_coarse.proofs.Rows.{rows_are}
+use Rattle.fp_coarse.specs.SegmentsLaws.{rows_are}
 use Rattle.fp_coarse.proofs.picking.take_nearest.Goals as goal
 
 pub nearest-requires-clause-segments : goal.nearest-requires-clause-segments

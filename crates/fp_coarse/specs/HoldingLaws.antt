@@ -1,4 +1,4 @@
--- What the lanes of a pick hold.
+-- What the lanes of a pick hold: each cell once, on its own die, with room on each segment.
 use Rattle.std.specs.Prelude.{◌≡◌, ℕ, ◌+◌, ◌<◌, ◌≤◌, Bool, true, false, nat_eq, if◌then◌else◌, List, [], ◌∷◌, ◌++◌, length, map, filter, All, get_or, Option, Some, None, slice_get, Result, Ok, Err, IsTrue, ◌⊎◌, pos, ◌-ℤ◌, ◌≤ℤ◌}
 use Rattle.std.specs.Option.{option_and_then}
 use Rattle.std.specs.List.{sum_by}
@@ -16,17 +16,18 @@ use Rattle.fp_base.specs.declared.ids.Die.{Die}
 use Rattle.fp_base.specs.declared.ids.Die.TheVariants.{Top, Bottom}
 use Rattle.fp_base.specs.declared.ids.Point.{Point}
 use Rattle.fp_tech.specs.Plan.{segments}
-use Rattle.fp_netlist.specs.Netlist.{Netlist}
+use Rattle.fp_netlist.specs.Netlist.{Netlist, IsSound}
 use Rattle.fp_netlist.specs.Points.{width}
 use Rattle.fp_place.specs.Places.{die_at, same_die}
 use Rattle.fp_place.specs.Placed.{lanes_on, entry_at}
 use Rattle.fp_score.specs.FirstFit.{segment_at}
-use Rattle.fp_score.specs.Pick.{Taken, sorted_by, taken_width, is_open, reach_cost, point_at, nearest_open, or_no_row, taken_by, cells_on, widest_first, pick_on, in_order, lanes_by}
+use Rattle.fp_score.specs.Pick.{Taken, Lined, after_both, picked, sorted_by, taken_width, is_open, reach_cost, point_at, nearest_open, or_no_row, taken_by, cells_on, widest_first, pick_on, in_order, lanes_by}
 use Rattle.fp_coarse.specs.Nearest.{AreSegments, IsLeastOrNone}
 use Rattle.fp_coarse.specs.Picking.{HoldAll, lane_width}
-use Rattle.fp_coarse.proofs.Counting.{same, same_other, count, counts_at, stands_in, one_place, range_most, range_holds, range_passes, segment_of, counts_all, sum_most, counts_there, counts_once}
-use Rattle.fp_coarse.proofs.Firsts.{least_is}
-use Rattle.fp_coarse.proofs.Sorting.{sort_sum, sum_by-map, sum_by-filter}
+use Rattle.fp_coarse.specs.CountingLaws.{same, same_other, count, counts_at, stands_in, one_place, range_most, range_holds, range_passes, segment_of, counts_all, sum_most, counts_there, counts_once}
+use Rattle.fp_coarse.specs.FirstsLaws.{least_is}
+use Rattle.fp_coarse.specs.SegmentsLaws.{rows_are}
+use Rattle.fp_coarse.specs.SortingLaws.{sort_sum, sum_by-map, sum_by-filter}
 
 -- what took segments: each one of the die, with room for all on it
 pub record AreSound (p : Netlist) (die : Die) (taken : List Taken) : Type 0 where
@@ -347,3 +348,19 @@ stuck_within p targets die (first ∷ cells) bound before cell all e =
         let same : first ≡ cell = (let given : stuck first ≡ stuck cell = e in cc) in
         omega (arith, All-head (λ c. c < bound) first cells all, same)
     by (Some segment) e rest = rest segment e
+
+-- ---- the lanes that a pick gives
+
+both_hold : (p : Netlist) (dies : List Die) (targets : List Point) (top bottom : Result (List Taken) ℕ) (lined : Lined) → IsSound p → pick_on p dies targets Top ≡ top
+    → pick_on p dies targets Bottom ≡ bottom → after_both p targets top bottom ≡ Ok lined → HoldAll p dies lined.top lined.bottom
+both_hold p dies targets (Err cell) bottom lined sound on_top on_bottom e = absurd cc
+both_hold p dies targets (Ok top) (Err cell) lined sound on_top on_bottom e = absurd cc
+both_hold p dies targets (Ok top) (Ok bottom) lined sound on_top on_bottom e =
+    let same : ◌≡◌ {A = Lined} (record { top = lanes_by p Top targets top; bottom = lanes_by p Bottom targets bottom }) lined = cc in
+    subst (λ (l : Lined). HoldAll p dies l.top l.bottom) same
+    (hold_all p dies targets top bottom (taken_on p dies targets Top top (rows_are p.plan sound.plan Top) on_top) (taken_on p dies targets Bottom bottom (rows_are p.plan sound.plan Bottom) on_bottom))
+
+-- they hold each cell once, on its own die, with room on each segment
+pub picked_holds : (p : Netlist) (dies : List Die) (targets : List Point) (lined : Lined) → IsSound p → picked p dies targets ≡ Ok lined → HoldAll p dies lined.top lined.bottom
+unfolding picked
+picked_holds p dies targets lined sound e = both_hold p dies targets (pick_on p dies targets Top) (pick_on p dies targets Bottom) lined sound refl refl e

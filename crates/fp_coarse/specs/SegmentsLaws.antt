@@ -1,4 +1,4 @@
--- The segments of a die as segments of a search.
+-- Laws of the segments of a die as segments of a search.
 use Rattle.std.specs.Prelude.{◌≡◌, ◌⊎◌, ℕ, ◌<◌, ◌≤◌, length, ◌+ℤ◌, ◌≤ℤ◌, Some, slice_get}
 use Rattle.std.proofs.Common.{ap, inl, inr, arith}
 use Rattle.std.proofs.lemmas.Bool.{cases_lt}
