@@ -1,1 +1,2 @@
+mod ByCells
 mod Pieces

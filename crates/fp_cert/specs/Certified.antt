@@ -1,5 +1,5 @@
 -- What a trial's duals and prices show: that each row and the choice of slots are the best.
-use Rattle.std.specs.Prelude.{◌≡◌, ℕ, ◌+◌, ◌<◌, ◌≤◌, ◌^◌, ◌==◌, List, ◌∷◌, All, map, find, set, slice_get, Option, Some, None, unsigned_abs, ◌+ℤ◌}
+use Rattle.std.specs.Prelude.{◌≡◌, true, ℕ, ◌+◌, ◌<◌, ◌≤◌, ◌^◌, ◌==◌, List, ◌∷◌, All, map, find, set, slice_get, Option, Some, None, unsigned_abs, ◌+ℤ◌}
 use Rattle.fp_base.specs.declared.ids.Die.{Die}
 use Rattle.fp_tech.specs.declared.dies.Segment.{Segment}
 use Rattle.fp_tech.specs.Plan.{segments}
@@ -8,7 +8,8 @@ use Rattle.fp_netlist.specs.Netlist.{Netlist}
 use Rattle.fp_rows.specs.Squares.{AreDuals}
 use Rattle.fp_score.specs.Score.{net_length}
 use Rattle.fp_cert.specs.declared.shown.CutShown.{CutShown}
-use Rattle.fp_cert.specs.Shown.{ShownRow, ShownTrial, rows_of}
+use Rattle.fp_cert.specs.Endings.{has_rows}
+use Rattle.fp_cert.specs.Shown.{ShownRow, ShownTrial, ShownRun, rows_of}
 use Rattle.fp_cert.specs.Standing.{places_shown, terminals_shown}
 use Rattle.fp_cert.specs.Trials.{row_cells, row_xs}
 
@@ -45,3 +46,7 @@ pub record IsCertified (p : Netlist) (grid : Slots) (trial : ShownTrial) : Type 
   pub prices : ArePricesShown p grid trial
   pub small_duals : (die : Die) → All (λ row. All (λ dual. dual ≤ 2 ^ 57) (row_duals row)) (rows_of trial die)
   pub small_prices : All (λ cut. cut.price ≤ 2 ^ 36) trial.cuts
+
+-- each trial that placed its cells has duals and prices that show it
+abbrev pub AreCertified : Netlist → Slots → ShownRun → Type 0
+AreCertified p grid run = (number : ℕ) (trial : ShownTrial) → slice_get run.trials number ≡ Some trial → has_rows trial.ending ≡ true → IsCertified p grid trial

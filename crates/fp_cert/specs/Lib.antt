@@ -3,6 +3,7 @@ pub mod Endings
 pub mod CertText
 pub mod Standing
 pub mod StandingLaws
+pub mod ByCell
 pub mod Trials
 pub mod CutLinesLaws
 pub mod RowsLaws

@@ -45,6 +45,18 @@ is_stand_of cell stand = stand.shown.cell.0 == cell
 abbrev pub stand_of : ShownTrial → ℕ → Option Stand
 stand_of trial cell = find (is_stand_of cell) (stands trial)
 
+-- what stands for the line of a cell that is not listed
+abbrev pub no_line : CellShown
+no_line = record { cell = record { 0 = 0 }; x = pos 0; target = record { x = pos 0; y = pos 0 }; dual = 0 }
+
+abbrev pub line_by : Option Stand → CellShown
+line_by None = no_line
+line_by (Some stand) = stand.shown
+
+-- the lines of all cells
+unfoldable pub lines_shown : Netlist → ShownTrial → List CellShown
+lines_shown p trial = map (λ cell. line_by (stand_of trial cell)) (range_with_len 0 (length p.cells))
+
 -- where a line puts its cell: at its x on its segment's row
 abbrev pub spot_by : Plan → Option Stand → Spot
 spot_by plan None = no_spot

@@ -1,6 +1,7 @@
 -- Laws of where a trial shows its cells: each line is found by its cell, so a trial that lists a placement shows it.
-use Rattle.std.specs.Prelude.{◌≡◌, ℕ, zero, suc, ◌+◌, ◌<◌, Bool, true, false, cond, nat_eq, List, [], ◌∷◌, length, find, slice_get, get_or, Option, Some, None, option_map}
+use Rattle.std.specs.Prelude.{◌≡◌, ℕ, zero, suc, ◌+◌, ◌<◌, Bool, true, false, cond, nat_eq, List, [], ◌∷◌, length, map, find, slice_get, get_or, Option, Some, None, option_map}
 use Rattle.std.specs.Option.{option_or}
+use Rattle.std.specs.List.{range_with_len}
 use Rattle.std.proofs.Common.{refl, sym, ap, subst, ◌∙◌, arith}
 use Rattle.std.proofs.lemmas.Bool.Decides.{nat_tests}
 use Rattle.std.proofs.lemmas.List.Folds.{find-append}
@@ -19,7 +20,7 @@ use Rattle.fp_place.specs.PlacedLaws.{entry_of, entry_on}
 use Rattle.fp_score.specs.FirstFit.{no_segment, segment_at}
 use Rattle.fp_cert.specs.declared.shown.CellShown.{CellShown}
 use Rattle.fp_cert.specs.Shown.{ShownRow, ShownTrial, rows_of}
-use Rattle.fp_cert.specs.Standing.{Stand, stands_in, stands_on, stands, is_stand_of, stand_of, spot_by, target_by, spots_shown, targets_shown, lane_shown, lanes_shown}
+use Rattle.fp_cert.specs.Standing.{Stand, stands_in, stands_on, stands, is_stand_of, stand_of, line_by, lines_shown, spot_by, target_by, spots_shown, targets_shown, lane_shown, lanes_shown}
 
 -- ---- lines that pass a test
 
@@ -318,3 +319,35 @@ targets_are p trial placed targets is agree once top bottom many shows =
     sym (fill_by_all (λ cell. target_by (stand_of trial cell)) targets (length p.cells) (target_by None) many (λ cell below.
     let line = line_for trial (length p.cells) placed.spots targets (agree_on p trial placed agree top bottom) (once_on p trial placed once top bottom) shows cell (omega (arith, below, is.cells)) in
     sym (ap target_by line.counts ∙ line.target_is)))
+
+-- ---- the lines of all cells
+
+map_map : {A B C : Type 0} (f : A → B) (g : B → C) (xs : List A) → map g (map f xs) ≡ map (λ x. g (f x)) xs
+map_map f g [] = refl
+map_map f g (x ∷ xs) = ap (λ ys. g (f x) ∷ ys) (map_map f g xs)
+
+map_alike : {A B : Type 0} (f g : A → B) → ((x : A) → f x ≡ g x) → (xs : List A) → map f xs ≡ map g xs
+map_alike f g same [] = refl
+map_alike f g same (x ∷ xs) = (λ i. same x i ∷ map_alike f g same xs i)
+
+-- a cell's line has the x of its spot and its target
+pub xs_of_lines : (p : Netlist) (trial : ShownTrial) → map (λ (line : CellShown). line.x) (lines_shown p trial) ≡ map (λ (spot : Spot). spot.x) (spots_shown p trial)
+unfolding lines_shown spots_shown
+xs_of_lines p trial =
+    map_map (λ cell. line_by (stand_of trial cell)) (λ (line : CellShown). line.x) (range_with_len 0 (length p.cells))
+    ∙ map_alike (λ cell. (line_by (stand_of trial cell)).x) (λ cell. (spot_by p.plan (stand_of trial cell)).x) (λ cell. by (stand_of trial cell)) (range_with_len 0 (length p.cells))
+    ∙ sym (map_map (λ cell. spot_by p.plan (stand_of trial cell)) (λ (spot : Spot). spot.x) (range_with_len 0 (length p.cells)))
+  where
+    by : (stand : Option Stand) → (line_by stand).x ≡ (spot_by p.plan stand).x
+    by None = refl
+    by (Some stand) = refl
+
+pub targets_of_lines : (p : Netlist) (trial : ShownTrial) → map (λ (line : CellShown). line.target) (lines_shown p trial) ≡ targets_shown p trial
+unfolding lines_shown targets_shown
+targets_of_lines p trial =
+    map_map (λ cell. line_by (stand_of trial cell)) (λ (line : CellShown). line.target) (range_with_len 0 (length p.cells))
+    ∙ map_alike (λ cell. (line_by (stand_of trial cell)).target) (λ cell. target_by (stand_of trial cell)) (λ cell. by (stand_of trial cell)) (range_with_len 0 (length p.cells))
+  where
+    by : (stand : Option Stand) → (line_by stand).target ≡ target_by stand
+    by None = refl
+    by (Some stand) = refl

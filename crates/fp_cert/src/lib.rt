@@ -1,14 +1,18 @@
 //! Certificates: what a run of trials shows of itself, its file and the file's writer.
 #![tactic(auto)]
 
+mod by_cell;
 mod certificate;
+mod finding;
 mod lines;
 mod run;
 mod shown;
 mod trial;
 mod trial_lines;
 
+pub use by_cell::{targets_of, xs_of};
 pub use certificate::write_cert;
+pub use finding::Finding;
 pub use run::Run;
 pub use shown::{CellShown, CutShown, Ending, RowShown};
 pub use trial::Trial;

@@ -18,14 +18,13 @@ use Rattle.fp_part.specs.SettledLaws.{settled_twice}
 use Rattle.fp_score.specs.Pick.{Lined, picked}
 use Rattle.fp_cert.specs.declared.shown.Ending.{Ending}
 use Rattle.fp_cert.specs.declared.shown.Ending.TheVariants.{Start, Better, NotBetter, NoRow}
-use Rattle.fp_cert.specs.Certified.{IsCertified}
+use Rattle.fp_cert.specs.Certified.{IsCertified, AreCertified}
 use Rattle.fp_cert.specs.Endings.{has_rows}
 use Rattle.fp_cert.specs.Shown.{ShownTrial, ShownRun, with_trial}
 use Rattle.fp_cert.specs.Standing.{dies_shown}
 use Rattle.fp_cert.specs.Trials.{is_better, Does, IsStart, IsStep, last_better, no_trial, answer_of}
 use Rattle.fp_flow.specs.Bases.{IsBase}
 use Rattle.fp_flow.specs.Chains.{IsAdded, IsBegun, IsGoing, IsWhole}
-use Rattle.fp_flow.specs.Outcomes.{AreCertified}
 use Rattle.fp_flow.specs.Steps.{IsNext}
 use Rattle.fp_flow.proofs.Firsts.{dies_placed}
 

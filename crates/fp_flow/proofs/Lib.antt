@@ -8,6 +8,5 @@ mod Chaining
 mod Finishing
 mod Stepping
 mod Answering
-mod Xs
 mod Tops
 mod Certifying

@@ -9,14 +9,13 @@ use Rattle.fp_place.specs.Places.{dies_of}
 use Rattle.fp_place.specs.Placed.{Placed, places_of, DoAgree, IsPlacementOf, IsInOrder}
 use Rattle.fp_place.specs.Settled.{KeepRules, settled}
 use Rattle.fp_cert.specs.declared.shown.Ending.TheVariants.{Better}
-use Rattle.fp_cert.specs.Certified.{IsCertified}
+use Rattle.fp_cert.specs.Certified.{IsCertified, AreCertified}
 use Rattle.fp_cert.specs.Endings.{has_rows}
 use Rattle.fp_cert.specs.Shown.{ShownTrial, ShownRun, run_without, with_trial}
 use Rattle.fp_cert.specs.Standing.{places_shown}
 use Rattle.fp_cert.specs.Trials.{IsStart, IsStep, last_better, IsChain, answer_of}
 use Rattle.fp_flow.specs.Bases.{IsBase}
 use Rattle.fp_flow.specs.Firsts.{IsSeedPlaced}
-use Rattle.fp_flow.specs.Outcomes.{AreCertified}
 
 -- a placement that is the seed's, from which a run begins
 pub record CanStart (p : Netlist) (grid : Slots) (placed : Placed) : Type 0 where

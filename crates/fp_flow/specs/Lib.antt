@@ -8,5 +8,4 @@ pub mod Steps
 pub mod Buffers
 pub mod Chains
 pub mod Outcomes
-pub mod Positions
 pub mod Tops

@@ -8,7 +8,7 @@ use Rattle.fp_place.specs.Legal.{IsLegal}
 use Rattle.fp_place.specs.Placed.{Placed, drawn_of, places_of, IsPlacementOf}
 use Rattle.fp_score.specs.FirstFit.{Seat, seat_dies, seat_places, fit_terminals, first_fit, IsSeed}
 use Rattle.fp_score.specs.Score.{score}
-use Rattle.fp_cert.specs.Certified.{IsCertified}
+use Rattle.fp_cert.specs.Certified.{AreCertified}
 use Rattle.fp_cert.specs.Endings.{has_rows}
 use Rattle.fp_cert.specs.OfProblem.{IsRunOf}
 use Rattle.fp_cert.specs.Shown.{ShownTrial, ShownRun}
@@ -17,10 +17,6 @@ use Rattle.fp_cert.specs.Trials.{IsChain, answer_of}
 use Rattle.fp_flow.specs.declared.placing.FlowFault.{FlowFault}
 use Rattle.fp_flow.specs.declared.placing.FlowFault.TheVariants.{Unfit, Memory}
 use Rattle.fp_flow.specs.declared.placing.Outcome.{Outcome}
-
--- each trial that placed its cells has duals and prices that show it
-abbrev pub AreCertified : Netlist → Slots → ShownRun → Type 0
-AreCertified p grid run = (number : ℕ) (trial : ShownTrial) → slice_get run.trials number ≡ Some trial → has_rows trial.ending ≡ true → IsCertified p grid trial
 
 -- a problem's grid and its seed, of this score
 pub record IsSeedOf (p : Netlist) (grid : Slots) (total : ℕ) : Type 0 where

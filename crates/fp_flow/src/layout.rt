@@ -9,10 +9,9 @@ ghost use Rattle.fp_flow.specs.Lanes.{CanPlaceAll, AddsBestRows};
 ghost use Rattle.fp_flow.specs.Steps.{IsLaidFrom, AddsBoth};
 
 use crate::lanes::place_lanes;
-use crate::positions::xs_of;
 use crate::rows::RowScratch;
 use fp_base::{Bottom, NoMemory, Point, Top};
-use fp_cert::{Ending, Trial};
+use fp_cert::{Ending, Trial, xs_of};
 use fp_netlist::Problem;
 use fp_place::{Lanes, Placement};
 use std::alloc::Global;

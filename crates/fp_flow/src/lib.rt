@@ -7,7 +7,6 @@ mod first;
 mod lanes;
 mod layout;
 mod placing;
-mod positions;
 mod rowless;
 mod rows;
 mod step;

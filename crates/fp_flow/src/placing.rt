@@ -14,11 +14,11 @@ ghost use Rattle.fp_flow.specs.Outcomes.{FlowGives};
 use crate::buffers::Buffers;
 use crate::chain::go_on;
 use crate::first::fill_first;
-use fp_base::{CellId, Die, NoMemory};
+use fp_base::{Die, NoMemory};
 use fp_cert::{Ending, Run, Trial};
 use fp_match::Matcher;
 use fp_netlist::Problem;
-use fp_part::settle;
+use fp_part::{dies_of, settle};
 use fp_place::Placement;
 use fp_score::{Stop, score};
 use fp_seed::{SeedFault, Seeded, seed};
@@ -188,17 +188,4 @@ fn first_run(
     let mut run = Run::new(alloc, limit, problem.dies().terminal().cost);
     run.push_trial(trial)?;
     Ok(run)
-}
-
-/// The die of each cell of a placement.
-fn dies_of(alloc: Global, problem: &Problem, placement: &Placement) -> Result<Vec<Die>, NoMemory>
-    requires { IsPlacementOf problem.now placement.now }
-    ensures { IfOk result (λ dies. dies.items ≡ dies_of (places_of placement.now)) }
-{
-    let cells = problem.cells();
-    let mut dies = Vec::with_capacity(alloc, cells as usize)?;
-    for cell in 0..cells {
-        dies.push(placement.spot(CellId(cell)).die)?;
-    }
-    Ok(dies)
 }

@@ -2,9 +2,11 @@
 #![tactic(auto)]
 
 mod areas;
+mod dies;
 mod partition;
 mod passes;
 
+pub use dies::dies_of;
 pub use passes::settle;
 
 #[cfg(test)]

@@ -5,7 +5,7 @@ use Rattle.std.proofs.lemmas.Option.{get_or_from_slice_get}
 use Rattle.fp_place.specs.declared.placement.Spot.{Spot}
 use Rattle.fp_place.specs.Places.{Place, dies_of}
 use Rattle.fp_place.specs.Placed.{no_spot, place_of, places_of}
-use Rattle.fp_flow.proofs.placing.dies_of.Goals as goal
+use Rattle.fp_part.proofs.dies.dies_of.Goals as goal
 
 pub loop-cell-preserved : goal.loop-cell-preserved
 loop-cell-preserved c =

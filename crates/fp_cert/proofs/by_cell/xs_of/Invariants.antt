@@ -1,0 +1,6 @@
+use Rattle.std.proofs.Common.{◌≡◌, map, take}
+use Rattle.fp_cert.specs.declared.shown.CellShown.{CellShown}
+use Rattle.fp_cert.proofs.by_cell.xs_of.Given as goal
+
+abbrev pub invariant-loop-line : goal.invariant-loop-line
+invariant-loop-line l = l.xs.items ≡ map (λ (line : CellShown). line.x) (take l.line-index l.line-items)
