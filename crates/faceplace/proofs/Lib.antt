@@ -1,7 +1,13 @@
+pub mod Checks
 pub mod Endings
+pub mod Findings
+pub mod Headlines
 pub mod Inputs
+pub mod Names
+pub mod Nets
 pub mod Placings
 pub mod Rowless
 pub mod Scores
 pub mod Seeds
 pub mod Verdicts
+pub mod Words

@@ -2,12 +2,13 @@
 use Rattle.std.specs.Prelude.{ℕ, ◌≤◌}
 use Rattle.faceplace.specs.declared.request.Request.{Request}
 use Rattle.faceplace.specs.declared.request.Request.TheVariants as requests
-use Rattle.faceplace.specs.Request.{Asked, Seed, Score, Place}
+use Rattle.faceplace.specs.Request.{Asked, Seed, Score, Place, Check}
 
 abbrev pub asked_of : Request → Asked
 asked_of (requests.Seed input output) = Seed input.now output.now
 asked_of (requests.Score input output) = Score input.now output.now
 asked_of (requests.Place input output cert trials) = Place input.now output.now cert.now trials
+asked_of (requests.Check input output cert) = Check input.now output.now cert.now
 
 -- how many trials may be asked for
 abbrev pub AreFew : ℕ → Type 0
@@ -17,3 +18,4 @@ abbrev pub AsksFew : Request → Type 0
 AsksFew (requests.Seed input output) = Unit {0}
 AsksFew (requests.Score input output) = Unit {0}
 AsksFew (requests.Place input output cert trials) = AreFew trials
+AsksFew (requests.Check input output cert) = Unit {0}

@@ -1,7 +1,7 @@
 -- What the words and the files make due.
 use Rattle.std.specs.Prelude.{◌≡◌, ◌⊎◌, ℕ, List, [], ◌∷◌, Option, Some, None, pos}
 use Rattle.fp_base.specs.Files.{Files}
-use Rattle.fp_tech.specs.Slots.{Slots}
+use Rattle.fp_tech.specs.Slots.{Slots, slot_count, IsGrid}
 use Rattle.fp_netlist.specs.Netlist.{Netlist, IsSound}
 use Rattle.fp_place.specs.declared.judge.Subject.{Subject}
 use Rattle.fp_place.specs.Breaks.{IsFirstBreak}
@@ -10,14 +10,17 @@ use Rattle.fp_place.specs.Legal.{IsLegal}
 use Rattle.fp_place.specs.Placed.{Placed, drawn_of}
 use Rattle.fp_out.specs.OutText.{out_text}
 use Rattle.fp_cert.specs.CertText.{cert_text}
+use Rattle.fp_cert.specs.declared.finding.Finding.TheVariants.{Yes, No}
 use Rattle.fp_cert.specs.Shown.{ShownRun}
 use Rattle.fp_cert.specs.Standing.{placed_shown}
 use Rattle.fp_cert.specs.Trials.{answer_of}
 use Rattle.fp_flow.specs.Outcomes.{IsPlaced}
-use Rattle.faceplace.specs.Request.{Asked, Seed, Score, Place}
-use Rattle.faceplace.specs.Report.{words_report, unfit_report, score_report, broken_report}
+use Rattle.fp_check.specs.Conditions.{CertOk, FirstFalse}
+use Rattle.fp_check.specs.Sound.{Shows}
+use Rattle.faceplace.specs.Request.{Asked, Seed, Score, Place, Check}
+use Rattle.faceplace.specs.Report.{words_report, unfit_report, score_report, broken_report, finding_report}
 use Rattle.faceplace.specs.Outcome.{Outcome, told, refusal}
-use Rattle.faceplace.specs.Sources.{AfterFile, most_input, problem_in, drawing_in}
+use Rattle.faceplace.specs.Sources.{AfterFile, most_input, most_cert, problem_in, drawing_in, cert_in}
 use Rattle.faceplace.specs.Drawn.{drawn_score}
 use Rattle.faceplace.specs.Seeding.{Seeding, Stopping, IsSeeding, IsStopping, seed_text, IsSeedReport}
 use Rattle.faceplace.specs.Trials.{place_report}
@@ -76,6 +79,22 @@ pub record PlaceStands (p : Netlist) (output cert : List ℕ) (trials : ℕ) (ou
 abbrev pub PlaceDue : Netlist → List ℕ → List ℕ → ℕ → Outcome → Type 0
 PlaceDue p output cert trials outcome = PlaceStands p output cert trials outcome ⊎ SeedStops p outcome
 
+-- `check`, 0: all sixteen conditions hold of the drawing and the run, and so the drawing is a legal placement, that of the answer of the
+-- problem's run of trials
+pub record CheckStands (p : Netlist) (drawing : Drawing) (run : ShownRun) (outcome : Outcome) : Type 0 where
+  pub ok : CertOk p drawing run
+  pub shows : Shows p drawing run
+  pub is : outcome ≡ told 0 (finding_report Yes)
+
+-- 5: a condition is false: the first of them
+pub record CheckFails (p : Netlist) (drawing : Drawing) (run : ShownRun) (outcome : Outcome) : Type 0 where
+  pub number : ℕ
+  pub first : FirstFalse p drawing run number
+  pub is : outcome ≡ told 5 (finding_report (No number))
+
+abbrev pub CheckDue : Netlist → Drawing → ShownRun → Outcome → Type 0
+CheckDue p drawing run outcome = CheckStands p drawing run outcome ⊎ CheckFails p drawing run outcome
+
 -- 3: the input file is not held, too long, or not in its grammar; else what comes next for the problem that it says, which is sound
 abbrev pub AfterInput : Option Files → List ℕ → (Netlist → Type 0) → Outcome → Type 0
 AfterInput held input next outcome =
@@ -85,6 +104,12 @@ AfterInput held input next outcome =
 abbrev pub AfterOutput : Option Files → Netlist → List ℕ → (Drawing → Type 0) → Outcome → Type 0
 AfterOutput held p output next outcome = AfterFile held (drawing_in p output) next (λ cause. outcome ≡ refusal most_input output cause)
 
+-- 3: the certificate is not held, too long, or not in its grammar for the problem and its grid; else what comes next for the run that it
+-- shows
+abbrev pub AfterCert : Option Files → Netlist → List ℕ → (ShownRun → Type 0) → Outcome → Type 0
+AfterCert held p cert next outcome =
+    (grid : Slots) × IsGrid p.plan.frame p.plan.terminal grid × AfterFile held (cert_in p (slot_count grid) cert) next (λ cause. outcome ≡ refusal most_cert cert cause)
+
 -- 2: the words are no request
 abbrev pub IsDue : Option Asked → Option Files → Outcome → Type 0
 IsDue None held outcome = outcome ≡ told 2 words_report
@@ -92,3 +117,5 @@ IsDue (Some (Seed input output)) held outcome = AfterInput held input (λ p. See
 IsDue (Some (Score input output)) held outcome =
     AfterInput held input (λ p. AfterOutput held p output (λ drawing. ScoreDue p drawing outcome) outcome) outcome
 IsDue (Some (Place input output cert trials)) held outcome = AfterInput held input (λ p. PlaceDue p output cert trials outcome) outcome
+IsDue (Some (Check input output cert)) held outcome =
+    AfterInput held input (λ p. AfterOutput held p output (λ drawing. AfterCert held p cert (λ run. CheckDue p drawing run outcome) outcome) outcome) outcome

@@ -14,4 +14,6 @@ pub mod Outcome
 pub mod Due
 pub mod Owed
 pub mod Judging
+pub mod Checking
 pub mod Run
+pub mod Headline

@@ -7,6 +7,8 @@ use Rattle.fp_text.specs.declared.fault.Kind.TheVariants.{Ended, Word, Number, N
 use Rattle.fp_netlist.specs.Netlist.{Netlist, cell_names}
 use Rattle.fp_place.specs.declared.judge.Subject.{Subject}
 use Rattle.fp_place.specs.declared.judge.Subject.TheVariants.{Cell, Net, Side}
+use Rattle.fp_cert.specs.declared.finding.Finding.{Finding}
+use Rattle.fp_cert.specs.declared.finding.Finding.TheVariants.{Yes, No}
 use Rattle.fp_score.specs.declared.stop.Stop.{Stop}
 use Rattle.fp_score.specs.declared.stop.Stop.TheVariants.{NoRoom, NoSlots}
 
@@ -73,3 +75,8 @@ subject_text p (Side die) = die_text die
 -- `broken RULE SUBJECT`
 abbrev pub broken_report : Netlist → ℕ → Subject → List ℕ
 broken_report p rule subject = codes "broken " ++ decimal rule ++ codes " " ++ subject_text p subject ++ codes "\n"
+
+-- `yes`, or `no K` with the number of the first condition that is false
+abbrev pub finding_report : Finding → List ℕ
+finding_report Yes = codes "yes\n"
+finding_report (No number) = codes "no " ++ decimal number ++ codes "\n"

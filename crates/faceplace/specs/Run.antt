@@ -3,10 +3,11 @@ use Rattle.std.specs.Prelude.{◌≡◌, ◌⊎◌, ℕ, List, ◌∷◌, ◌++�
 use Rattle.fp_base.specs.Faults.{Rose}
 use Rattle.fp_base.specs.Files.{Files, WhereTold, OthersStay, followed_by, FrontFollows}
 use Rattle.fp_netlist.specs.Netlist.{Netlist, IsSound}
-use Rattle.faceplace.specs.Request.{Asked, Seed, Score, Place}
+use Rattle.fp_place.specs.Drawing.{Drawing}
+use Rattle.faceplace.specs.Request.{Asked, Seed, Score, Place, Check}
 use Rattle.faceplace.specs.Report.{Cause}
 use Rattle.faceplace.specs.Outcome.{Writing, Outcome, with_writings}
-use Rattle.faceplace.specs.Sources.{AfterFile, problem_in}
+use Rattle.faceplace.specs.Sources.{AfterFile, problem_in, drawing_in}
 use Rattle.faceplace.specs.Due.{IsDue}
 
 -- the outside at one moment, as far as it is told: the held files, the bytes written so far, and the counts of faults
@@ -50,6 +51,8 @@ IsUnread None held unread = ⊥
 IsUnread (Some (Seed input output)) held unread = UpTo held input (problem_in input) (λ p. ⊥) unread
 IsUnread (Some (Score input output)) held unread = UpTo held input (problem_in input) (λ p. unread ≡ output) unread
 IsUnread (Some (Place input output cert trials)) held unread = UpTo held input (problem_in input) (λ p. ⊥) unread
+IsUnread (Some (Check input output cert)) held unread =
+    UpTo held input (problem_in input) (λ p. UpTo held output (drawing_in p output) (λ drawing. unread ≡ cert) unread) unread
 
 -- the folder failed at reading a file: nothing was done. A count of faults is the folder's and names no file, so that this one failed is not told by it.
 pub record FailsAtReading (asked : Option Asked) (status : ℕ) (old new : Outside) : Type 0 where
@@ -95,3 +98,11 @@ pub record InputSays (p : Netlist) (input : List ℕ) (held : Option Files) : Ty
 -- a run ends with this status from where it has read the problem of its input file, whatever that file's name
 abbrev pub EndsForProblem : Netlist → (List ℕ → Asked) → ℕ → Outside → Outside → Type 0
 EndsForProblem p asked status old new = (input : List ℕ) → InputSays p input old.held → EndsAs (Some (asked input)) status old new
+
+-- the output file of this name says this drawing for a problem
+pub record OutputSays (p : Netlist) (drawing : Drawing) (output : List ℕ) (held : Option Files) : Type 0 where
+  pub says : WhereTold held (λ files. Ok drawing ≡ drawing_in p output files)
+
+-- a run ends with this status from where it has read the drawing of its output file too
+abbrev pub EndsForDrawing : Netlist → Drawing → List ℕ → (List ℕ → Asked) → ℕ → Outside → Outside → Type 0
+EndsForDrawing p drawing output asked status old new = (input : List ℕ) → InputSays p input old.held → OutputSays p drawing output old.held → EndsAs (Some (asked input)) status old new

@@ -9,11 +9,18 @@ use Rattle.fp_contest_in.specs.Grammar.{Reads}
 use Rattle.fp_contest_in.specs.Statements.{problem_of}
 use Rattle.fp_out.specs.OutGrammar.{ReadsOut}
 use Rattle.fp_out.specs.OutReading.{out_of}
+use Rattle.fp_cert.specs.CertGrammar.{ReadsCert}
+use Rattle.fp_cert.specs.CertReading.{cert_of}
+use Rattle.fp_cert.specs.Shown.{ShownRun}
 use Rattle.faceplace.specs.Report.{Cause, IsMissing, IsLong, IsWrong}
 
 -- the greatest length of an input or an output file
 abbrev pub most_input : ℕ
 most_input = 2 ^ 28
+
+-- that of a certificate
+abbrev pub most_cert : ℕ
+most_cert = 2 ^ 30
 
 -- a first fault is a cause of a refusal
 abbrev pub wrong_of : {A : Type 0} → Result A Fault → Result A Cause
@@ -41,6 +48,10 @@ problem_in name files = read_in most_input problem_read (bytes_of files name)
 abbrev pub drawing_in : Netlist → List ℕ → Files → Result Drawing Cause
 drawing_in p name files = read_in most_input (out_of p) (bytes_of files name)
 
+-- the run that a certificate shows for a problem with so many slots, or why the file is refused
+abbrev pub cert_in : Netlist → ℕ → List ℕ → Files → Result ShownRun Cause
+cert_in p slots name files = read_in most_cert (cert_of p slots) (bytes_of files name)
+
 -- A file is read, and what comes next is by what it says, or by why it is refused. Where the folder tells its files, this is what they hold.
 abbrev pub AfterFile : {A : Type 0} → Option Files → (Files → Result A Cause) → (A → Type 0) → (Cause → Type 0) → Type 0
 AfterFile {A} held reading next refused = (read : Result A Cause) × WhereTold held (λ files. read ≡ reading files) × MatchResult read next refused
@@ -51,3 +62,5 @@ pub record ReadingsAgree : Type 0 where
   pub one_problem : (bytes : List ℕ) (a b : ProblemText) → Reads bytes a → Reads bytes b → a ≡ b
   pub drawings : (p : Netlist) → IsSound p → (bytes : List ℕ) (drawing : Drawing) → ReadsOut p bytes drawing ↔ (out_of p bytes ≡ Ok drawing)
   pub one_drawing : (p : Netlist) → IsSound p → (bytes : List ℕ) (a b : Drawing) → ReadsOut p bytes a → ReadsOut p bytes b → a ≡ b
+  pub certs : (p : Netlist) → IsSound p → (slots : ℕ) (bytes : List ℕ) (run : ShownRun) → ReadsCert p slots bytes run ↔ (cert_of p slots bytes ≡ Ok run)
+  pub one_run : (p : Netlist) → IsSound p → (slots : ℕ) (bytes : List ℕ) (a b : ShownRun) → ReadsCert p slots bytes a → ReadsCert p slots bytes b → a ≡ b

@@ -1,7 +1,9 @@
 //! The program `faceplace`: `seed IN OUT` writes the first-fit placement of a contest input, `place IN OUT CERT [N]` writes the best of the
-//! trials that follow it with a certificate of them, and `score IN OUT` judges and scores an output file.
+//! trials that follow it with a certificate of them, `score IN OUT` judges and scores an output file, and `check IN OUT CERT` checks one by a
+//! certificate.
 #![tactic(auto)]
 
+mod check;
 mod input;
 mod place;
 mod refusal;

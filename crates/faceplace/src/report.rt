@@ -2,11 +2,12 @@
 
 ghost use Rattle.std.specs.Prelude.{◌≡◌, IfOk, string_bytes};
 ghost use Rattle.fp_score.specs.FirstFit.{IsStopOf};
-ghost use Rattle.faceplace.specs.Report.{die_text, kind_text, fault_line, input_report, seed_report, stop_text, unfit_report, score_report, subject_text, broken_report};
+ghost use Rattle.faceplace.specs.Report.{die_text, kind_text, fault_line, input_report, seed_report, stop_text, unfit_report, score_report, subject_text, broken_report, finding_report};
 ghost use Rattle.faceplace.specs.Subjects.{IsSubjectOf};
 ghost use Rattle.faceplace.specs.Causes.{cause_of};
 
 use fp_base::Die;
+use fp_cert::Finding;
 use fp_netlist::Problem;
 use fp_place::Subject;
 use fp_score::Stop;
@@ -168,4 +169,14 @@ pub fn broken_report(
     report.extend_from_slice(subject_word(problem, subject))?;
     report.extend_from_slice(b"\n")?;
     Ok(report)
+}
+
+/// `yes`, or `no K`, for an output file that was checked.
+pub fn finding_report(alloc: Global, finding: Finding) -> Result<String, AllocError>
+    ensures { IfOk result (λ report. string_bytes report ≡ finding_report finding) }
+{
+    match finding {
+        Finding::Yes => format!(in alloc; "yes\n"),
+        Finding::No(number) => format!(in alloc; "no {number}\n"),
+    }
 }

@@ -2,7 +2,7 @@
 
 ghost use Rattle.std.specs.Prelude.{◌≡◌, ℕ, List, map, string_bytes, option_map, IfSome};
 ghost use Rattle.fp_text.specs.Numbers.{number_of};
-ghost use Rattle.faceplace.specs.Request.{Asked, two_names, are_apart, some_trials, three_names, asks_placing, asks_for, asks};
+ghost use Rattle.faceplace.specs.Request.{Asked, Check, two_names, are_apart, some_trials, three_names, with_trials, asks_placing, asks_checking, asks_for, asks};
 ghost use Rattle.faceplace.specs.Asked.{asked_of, AreFew, AsksFew};
 
 use fp_text::number;
@@ -33,6 +33,13 @@ pub enum Request<'a> {
         output: &'a str,
         cert: &'a str,
         trials: u32,
+    },
+    /// `check IN OUT CERT`: whether an output file is the answer of the run that a certificate shows, and the run is one that the input
+    /// allows.
+    Check {
+        input: &'a str,
+        output: &'a str,
+        cert: &'a str,
     },
 }
 
@@ -75,14 +82,14 @@ fn trials_of(word: &str) -> Option<u32>
 }
 
 /// A placement, where the names are apart and a number of trials is told.
-fn three_names<'a>(
+fn with_trials<'a>(
     input: &'a str,
     output: &'a str,
     cert: &'a str,
     trials: Option<u32>,
 ) -> Option<Request<'a>>
     requires { IfSome trials AreFew }
-    ensures gives { option_map asked_of result ≡ three_names input.now output.now cert.now trials }
+    ensures gives { option_map asked_of result ≡ with_trials input.now output.now cert.now trials }
     ensures few { IfSome result AsksFew }
 {
     let trials = trials?;
@@ -104,18 +111,45 @@ fn asks_placing(words: &[String]) -> Option<Request<'_>>
     ensures few { IfSome result AsksFew }
 {
     match words {
-        [input, output, cert] => three_names(
+        [input, output, cert] => with_trials(
             input.as_str(),
             output.as_str(),
             cert.as_str(),
             Some(TRIALS),
         ),
-        [input, output, cert, trials] => three_names(
+        [input, output, cert, trials] => with_trials(
             input.as_str(),
             output.as_str(),
             cert.as_str(),
             trials_of(trials.as_str()),
         ),
+        _ => None,
+    }
+}
+
+/// A check, where the names are apart.
+fn checking<'a>(input: &'a str, output: &'a str, cert: &'a str) -> Option<Request<'a>>
+    ensures gives { option_map asked_of result ≡ three_names Check input.now output.now cert.now }
+    ensures few { IfSome result AsksFew }
+{
+    if are_apart(input, output, cert) {
+        Some(Request::Check {
+            input,
+            output,
+            cert,
+        })
+    } else {
+        None
+    }
+}
+
+/// The check that words ask for.
+fn asks_checking(words: &[String]) -> Option<Request<'_>>
+    ensures gives { option_map asked_of result ≡ asks_checking (map string_bytes words.now) }
+    ensures few { IfSome result AsksFew }
+{
+    match words {
+        [input, output, cert] => checking(input.as_str(), output.as_str(), cert.as_str()),
         _ => None,
     }
 }
@@ -133,6 +167,8 @@ fn asks_for<'a>(command: &str, words: &'a [String]) -> Option<Request<'a>>
         Some(Request::Score { input, output })
     } else if command == "place" {
         asks_placing(words)
+    } else if command == "check" {
+        asks_checking(words)
     } else {
         None
     }

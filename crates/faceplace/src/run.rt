@@ -8,7 +8,9 @@ ghost use Rattle.faceplace.specs.Sources.{ReadingsAgree};
 ghost use Rattle.faceplace.specs.Owed.{IsOwed};
 ghost use Rattle.faceplace.specs.Status.{code_of};
 ghost use Rattle.faceplace.specs.Run.{outside, EndsAs};
+ghost use Rattle.faceplace.specs.Headline.{Headline};
 
+use crate::check::run_check;
 use crate::place::run_place;
 use crate::request::{Request, request_of};
 use crate::score::run_score;
@@ -35,16 +37,28 @@ fn serve<F: Folder, S: Sink>(alloc: Global, words: &[String], folder: &mut F, ou
                 trials,
             },
         ) => run_place(alloc, input, output, cert, trials, folder, out),
+        Some(
+            Request::Check {
+                input,
+                output,
+                cert,
+            },
+        ) => run_check(alloc, input, output, cert, folder, out),
     }
 }
 
-/// Does what the words ask for: seeds or places the cells of an input file, or scores an output file. What is written, the output file and
-/// then a certificate, is whole before the report is put. It answers the exit status:
+/// Does what the words ask for: seeds or places the cells of an input file, or scores an output file, or checks it by a certificate. What is
+/// written, the output file and then a certificate, is whole before the report is put. It answers the exit status:
 /// 0 where it is done, 1 for want of memory, 2 where the words are no request, 3 where a file to be read is not held, too long or
-/// not in its grammar, 4 where neither first fit of the input stands, 5 where the output file breaks a rule, and 6 where the folder's
-/// or the sink's faults rose.
+/// not in its grammar, 4 where neither first fit of the input stands, 5 where the output file breaks a rule or a condition of a check is
+/// false, and 6 where the folder's or the sink's faults rose.
 pub fn run<F: Folder, S: Sink>(alloc: Global, words: &[String], folder: &mut F, out: &mut S) -> u8
     ensures ends { EndsAs (asks (map string_bytes words.now)) result
+        (outside (F.held folder.old) (S.written out.old) (F.faults folder.old) (S.faults out.old))
+        (outside (F.held folder.new) (S.written out.new) (F.faults folder.new) (S.faults out.new)) }
+    // A placement that is done, read back from its files, obeys every rule of the contest; its score, which is printed, is at most the
+    // seed's and every trial's; each row and the terminals are the best, as the written duals and prices show, and a check says yes.
+    ensures headline { Headline (asks (map string_bytes words.now)) result
         (outside (F.held folder.old) (S.written out.old) (F.faults folder.old) (S.faults out.old))
         (outside (F.held folder.new) (S.written out.new) (F.faults folder.new) (S.faults out.new)) }
     // Where the folder tells its files and no device fails, the status is the one that the words and the files owe, or memory ran out.

@@ -20,7 +20,7 @@ write_outcome-requires-clause-of_problem g c =
 pub write_outcome-requires-clause-trials : goal.write_outcome-requires-clause-trials
 write_outcome-requires-clause-trials g c =
     let gives : FlowGives c.args.problem.now c.args.trials (Ok c.in-Ok.outcome) = c.in-Ok.ensures.gives in
-    trials_of c.args.problem.now gives.0 c.args.trials c.in-Ok.outcome.run gives.1.chain
+    trials_of c.args.problem.now (slot_count gives.0) c.in-Ok.outcome.run gives.1.run_of_problem
 
 pub returns-in-Ok : goal.returns-in-Ok
 returns-in-Ok g c = c.write_outcome.ensures c.args.trials c.in-Ok.ensures.gives

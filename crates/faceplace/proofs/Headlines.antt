@@ -1,0 +1,134 @@
+-- A placement that is done is shown by its files, as they read back.
+use Rattle.std.proofs.Common.{◌≡◌, ◌≢◌, ℕ, suc, ◌<◌, ◌≤◌, ◌^◌, Bool, true, false, cond, List, [], ◌∷◌, length, Option, Some, None, Result, Ok, Err, refl, sym, ap, subst, ◌∙◌, arith, inl, inr}
+use Rattle.std.specs.Prelude.{MatchResult, nat_lt}
+use Rattle.std.proofs.lemmas.Bool.{le-ltb}
+use Rattle.fp_base.specs.Files.{Files, bytes_of, with_file, followed_by}
+use Rattle.fp_base.specs.FilesLaws.{bytes_set, bytes_others}
+use Rattle.fp_tech.specs.Slots.{Slots, slot_count, IsGrid}
+use Rattle.fp_tech.specs.SlotsLaws.{grid_once}
+use Rattle.fp_text.specs.Reading.{Fault}
+use Rattle.fp_netlist.specs.Netlist.{Netlist, IsSound}
+use Rattle.fp_place.specs.Drawing.{Drawing}
+use Rattle.fp_place.specs.Placed.{Placed, drawn_of}
+use Rattle.fp_flow.specs.Outcomes.{IsPlaced}
+use Rattle.fp_out.specs.OutLengthLaws.{placement_short}
+use Rattle.fp_out.specs.OutReading.{out_of}
+use Rattle.fp_out.specs.OutReadingLaws.{is_in_read}
+use Rattle.fp_out.specs.OutGrammar.{ReadsOut}
+use Rattle.fp_out.specs.OutText.{out_text}
+use Rattle.fp_out.specs.ReadBack.{reads_back}
+use Rattle.fp_cert.specs.CertLengthLaws.{cert_short}
+use Rattle.fp_cert.specs.CertReadBack.{says_run}
+use Rattle.fp_cert.specs.CertReading.{cert_of}
+use Rattle.fp_cert.specs.CertReadingLaws.{is_in_read as cert_is_read}
+use Rattle.fp_cert.specs.CertText.{cert_text}
+use Rattle.fp_cert.specs.OfProblem.{IsRunOf}
+use Rattle.fp_cert.specs.Shown.{ShownRun}
+use Rattle.fp_cert.specs.Standing.{placed_shown}
+use Rattle.fp_cert.specs.Trials.{answer_of}
+use Rattle.fp_check.specs.CompleteLaws.{complete}
+use Rattle.fp_check.specs.Conditions.{CertOk}
+use Rattle.fp_check.specs.SoundLaws.{AreNetsOf, sound}
+use Rattle.faceplace.specs.Report.{Cause, IsLong}
+use Rattle.faceplace.specs.Request.{Asked, Place}
+use Rattle.faceplace.specs.Outcome.{Outcome, with_writings, told, refusal}
+use Rattle.faceplace.specs.Sources.{most_input, most_cert, wrong_of, read_in, problem_in, drawing_in, cert_in}
+use Rattle.faceplace.specs.Due.{PlaceStands, PlaceDue, IsDue}
+use Rattle.faceplace.specs.Trials.{place_report}
+use Rattle.faceplace.specs.Run.{Outside, EndsAs, IsDone}
+use Rattle.faceplace.specs.Headline.{IsShownBy, IsPlacedFrom, Headline}
+use Rattle.faceplace.proofs.Names.{HasNames, problem_named}
+use Rattle.faceplace.proofs.Nets.{nets_read}
+use Rattle.faceplace.proofs.Words.{KeepsApart}
+
+-- a file that holds a short text says what the text says
+says_text : {A : Type 0} (limit : ℕ) (reading : List ℕ → Result A Fault) (bytes : Option (List ℕ)) (text : List ℕ) (a : A) → bytes ≡ Some text → length text ≤ limit
+    → reading text ≡ Ok a → read_in limit reading bytes ≡ Ok a
+says_text limit reading bytes text a holds short reads =
+    ap (read_in limit reading) holds
+    ∙ ap (λ (long : Bool). cond long (Err IsLong) (wrong_of (reading text))) (le-ltb limit (length text) short)
+    ∙ ap wrong_of reads
+
+-- the files with those of a placement, the output file and then the certificate
+abbrev placed_files : Files → Netlist → List ℕ → List ℕ → Placed → ShownRun → Files
+placed_files before p output cert answer run = with_file (with_file before output (out_text p (drawn_of answer))) cert (cert_text run)
+
+-- what is due for a placement, with its files written, shows it
+shown : (p : Netlist) (output cert : List ℕ) (limit : ℕ) (before : Files) (grid : Slots) (run : ShownRun) (seed_score : ℕ) → IsSound p → HasNames p → output ≢ cert
+    → IsPlaced p limit grid run seed_score (placed_shown p grid (answer_of run))
+    → IsShownBy p output cert limit (placed_files before p output cert (placed_shown p grid (answer_of run)) run) (place_report p seed_score run)
+shown p output cert limit before grid run seed_score is names apart placed = record {
+  grid = grid;
+  is_grid = placed.grid_is;
+  drawing = drawn_of answer;
+  run = run;
+  output_says =
+      says_text most_input (out_of p) (bytes_of (with_file written cert (cert_text run)) output) (out_text p (drawn_of answer)) (drawn_of answer)
+      (bytes_others written cert (cert_text run) output apart ∙ bytes_set before output (out_text p (drawn_of answer)))
+      (omega (arith, placement_short p answer is placed.of_problem names.cells names.nets))
+      (is_in_read p is (out_text p (drawn_of answer)) (drawn_of answer) reads);
+  cert_says =
+      says_text most_cert (cert_of p (slot_count grid)) (bytes_of (with_file written cert (cert_text run)) cert) (cert_text run) run
+      (bytes_set written cert (cert_text run))
+      (omega (arith, cert_short p (slot_count grid) is few run placed.run_of_problem))
+      (cert_is_read p (slot_count grid) is (cert_text run) run (says_run p (slot_count grid) is few run placed.run_of_problem));
+  ok = ok;
+  shows = sound p (drawn_of answer) run is (λ other is_grid. subst (λ (g : Slots). IsRunOf p (slot_count g) run) (grid_once p.plan.frame p.plan.terminal grid other placed.grid_is is_grid) placed.run_of_problem)
+      (nets_read p (out_text p (drawn_of answer)) (drawn_of answer) reads) ok;
+  chain = placed.chain;
+  seed_score = seed_score;
+  seed = placed.seed;
+  report_is = refl;
+}
+  where
+    answer : Placed
+    answer = placed_shown p grid (answer_of run)
+
+    written : Files
+    written = with_file before output (out_text p (drawn_of answer))
+
+    few : slot_count grid ≤ 2 ^ 30
+    few = omega (arith, placed.grid_is.few)
+
+    reads : ReadsOut p (out_text p (drawn_of answer)) (drawn_of answer)
+    reads = reads_back p answer is placed.of_problem names.cells names.nets
+
+    ok : CertOk p (drawn_of answer) run
+    ok = complete p grid limit run is placed.grid_is placed.run_of_problem placed.chain placed.certified
+
+-- a done placement, of the outcome that was due
+from_due : (input output cert : List ℕ) (limit : ℕ) (before : Files) (outcome : Outcome) (old new : Outside) → output ≢ cert
+    → IsDue (Some (Place input output cert limit)) (Some before) outcome → outcome.status ≡ 0 → new.held ≡ with_writings outcome.writings (Some before)
+    → new.written ≡ followed_by outcome.report old.written → IsPlacedFrom input output cert limit before old new
+from_due input output cert limit before outcome old new apart due zero files put = by due.0 due.1 due.2
+  where
+    other_status : (status : ℕ) (report : List ℕ) → outcome ≡ told (suc status) report → ⊥
+    other_status status report is = omega (arith, zero, ap (λ (o : Outcome). o.status) is)
+
+    made : (p : Netlist) → problem_in input before ≡ Ok p → IsSound p → PlaceStands p output cert limit outcome → IsPlacedFrom input output cert limit before old new
+    made p says is stands = record {
+      p = p;
+      input_says = says;
+      after = placed_files before p output cert (placed_shown p stands.grid (answer_of stands.run)) stands.run;
+      held = files ∙ ap (λ (o : Outcome). with_writings o.writings (Some before)) stands.is;
+      report = place_report p stands.seed_score stands.run;
+      shown = shown p output cert limit before stands.grid stands.run stands.seed_score is (problem_named input before p says) apart stands.placed;
+      put = put ∙ ap (λ (o : Outcome). followed_by o.report old.written) stands.is;
+    }
+
+    by : (read : Result Netlist Cause) → read ≡ problem_in input before
+        → MatchResult read (λ p. IsSound p × PlaceDue p output cert limit outcome) (λ cause. outcome ≡ refusal most_input input cause) → IsPlacedFrom input output cert limit before old new
+    by (Ok p) says (is, inl stands) = made p (sym says) is stands
+    by (Ok p) says (is, inr stops) = absurd (other_status 3 _ stops.is)
+    by (Err cause) says is = absurd (other_status 2 _ is)
+
+-- however a run ends, where it ends with 0 after a placement was asked for, the placement is done
+pub headline_is : (asked : Option Asked) (status : ℕ) (old new : Outside) → KeepsApart asked → EndsAs asked status old new → Headline asked status old new
+headline_is asked status old new apart (inl done) = λ input output cert limit before is held zero.
+    let due = subst (λ (files : Option Files). IsDue (Some (Place input output cert limit)) files done.outcome) held (subst (λ (a : Option Asked). IsDue a old.held done.outcome) is done.due) in
+    from_due input output cert limit before done.outcome old new (apart input output cert limit is) due (sym done.status_is ∙ zero)
+    (done.files ∙ ap (with_writings done.outcome.writings) held) done.reports
+headline_is asked status old new apart (inr (inl w)) = λ input output cert limit before is held zero. absurd (omega (arith, zero, w.status_is))
+headline_is asked status old new apart (inr (inr (inl r))) = λ input output cert limit before is held zero. absurd (omega (arith, zero, r.status_is))
+headline_is asked status old new apart (inr (inr (inr (inl w)))) = λ input output cert limit before is held zero. absurd (omega (arith, zero, w.status_is))
+headline_is asked status old new apart (inr (inr (inr (inr r)))) = λ input output cert limit before is held zero. absurd (omega (arith, zero, r.status_is))
