@@ -45,4 +45,6 @@ fn main(rt: HostRuntime) -> ExitCode {
 #[cfg(test)]
 mod tests;
 #[cfg(test)]
+mod tests_of_check;
+#[cfg(test)]
 mod tests_of_place;

@@ -22,7 +22,7 @@ DieSize\t0\t0\t20\t20\r\nNumInstances\t2\r\nInst\tC1\tMC1\r\nInst\tC2\tMC1\r\nNu
 Pin\tC1/P1\r\nPin\tC2/P1\r\n";
 
 /// A high cell that fits the top die alone, behind a cell that fills it.
-const HIGH: &str =
+pub(crate) const HIGH: &str =
     "NumTechnologies 1\nTech T 2\nLibCell S 4 10 1\nPin P 0 0\nLibCell H 4 20 1\nPin P 0 0\nDieSize 0 0 20 20\n\
 TopDieMaxUtil 20\nBottomDieMaxUtil 50\nTopDieRows 0 0 20 20 1\nBottomDieRows 0 0 20 10 2\nTopDieTech T\nBottomDieTech T\n\
 TerminalSize 2 2\nTerminalSpacing 1\nNumInstances 2\nInst C1 S\nInst C2 H\nNumNets 1\nNet N1 2\nPin C1/P\nPin C2/P\n";
@@ -163,7 +163,7 @@ pub(crate) fn with_changes(
 }
 
 /// Adds the words of a command line.
-fn push_words(alloc: Global, words: &mut Vec<String>, line: &str) -> Result<(), AllocError> {
+pub(crate) fn push_words(alloc: Global, words: &mut Vec<String>, line: &str) -> Result<(), AllocError> {
     for word in line.split_whitespace() {
         words.push(String::from_str(alloc, word)?)?;
     }
@@ -753,6 +753,9 @@ fn other_words_are_no_request(rt: HostRuntime) -> Result<(), Fail> {
         "place a o c 9",
         "place a o c x",
         "place a o c 3 3",
+        "check a o",
+        "check a o o",
+        "check a o c 3",
     ] {
         expect_no_request(&rt, rt.alloc(), line)?;
     }
