@@ -8,3 +8,6 @@ pub mod CutLinesLaws
 pub mod RowsLaws
 pub mod Certified
 pub mod OfProblem
+pub mod CertGrammar
+pub mod CertReading
+pub mod Growing

@@ -1,14 +1,19 @@
-//! Certificates: what a run of trials shows of itself, its file and the file's writer.
+//! Certificates: what a run of trials shows of itself, its file, and the file's writer and reader.
 #![tactic(auto)]
 
 mod certificate;
 mod lines;
+mod lines_reader;
+mod numbers;
+mod reader;
 mod run;
 mod shown;
 mod trial;
 mod trial_lines;
 
 pub use certificate::write_cert;
+pub use lines_reader::read_lines;
+pub use reader::read_cert;
 pub use run::Run;
 pub use shown::{CellShown, CutShown, Ending, RowShown};
 pub use trial::Trial;
