@@ -1,6 +1,6 @@
 -- The grammar of the certificate file, as a relation between a run of a problem and the tokens that spell it: each statement takes the
 -- first words, and the rest follow. Cells and nets are told by their numbers in the problem, slots by theirs in its grid.
-use Rattle.std.specs.Prelude.{◌≡◌, ◌⊎◌, ℕ, ◌+◌, ◌-◌, ◌^◌, ◌<◌, List, [], length, Ok, codes, ℤ, pos}
+use Rattle.std.specs.Prelude.{◌≡◌, ◌⊎◌, ℕ, ◌+◌, ◌-◌, ◌^◌, ◌<◌, List, [], ◌∷◌, length, Ok, codes, ℤ, pos}
 use Rattle.fp_base.specs.declared.ids.CellId.{CellId}
 use Rattle.fp_base.specs.declared.ids.Die.{Die}
 use Rattle.fp_base.specs.declared.ids.Die.TheVariants.{Top, Bottom}
@@ -70,11 +70,9 @@ pub record IsCellLine (p : Netlist) (line : CellShown) (words rest : List Word) 
 
 -- `Segment n dual`, then n cells; with the trial's cells before them they are at most 2^18
 pub record IsRowLines (p : Netlist) (taken : ℕ) (row : ShownRow) (words rest : List Word) : Type 0 where
-  pub after_keyword : List Word
   pub after_count : List Word
   pub after_first : List Word
-  pub begins : Keyword (codes "Segment") words after_keyword
-  pub count : Number 0 (most_lines - taken) (length row.cells) after_keyword after_count
+  pub count : IsNumberLine (codes "Segment") 0 (most_lines - taken) (length row.cells) words after_count
   pub dual : Number 0 most_shown row.first after_count after_first
   pub lines : Each (λ before. IsCellLine p) [] row.cells after_first rest
 

@@ -11,3 +11,4 @@ pub mod OfProblem
 pub mod CertGrammar
 pub mod CertReading
 pub mod Growing
+pub mod CertTokensLaws
