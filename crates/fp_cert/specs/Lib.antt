@@ -12,3 +12,4 @@ pub mod CertGrammar
 pub mod CertReading
 pub mod Growing
 pub mod CertTokensLaws
+pub mod CertReadingLaws
