@@ -13,3 +13,6 @@ pub mod CertReading
 pub mod Growing
 pub mod CertTokensLaws
 pub mod CertReadingLaws
+pub mod CertRunLaws
+pub mod CertReadBack
+pub mod CertLengthLaws
