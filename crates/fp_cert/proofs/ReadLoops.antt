@@ -91,6 +91,7 @@ pub record RowsSoFar (p : Netlist) (die : Die) (start taken count i : ℕ) (old 
   pub taken_is : taken ≡ start + cells_in so_far.items
 
 pub rows_none : (p : Netlist) (die : Die) (start count : ℕ) (old : ShownTrial) (l : Left) → RowsSoFar p die start start count 0 old old l (many_next (row_item p start) count [] l)
+unfolding so_far_none
 rows_none p die start count old l = record { so_far = so_far_none (with_rows die) (row_item p start) count old l (none die); taken_is = taken }
   where
     taken : start ≡ start + cells_in []
@@ -106,6 +107,7 @@ RowMore p die taken after now next l left = (row : ShownRow) × (row_next p take
 
 pub rows_more : (p : Netlist) (die : Die) (start taken after count i : ℕ) (old now next : ShownTrial) (l left : Left) (total : Read (List ShownRow)) → i < count
     → RowsSoFar p die start taken count i old now l total → RowMore p die taken after now next l left → RowsSoFar p die start after count (i + 1) old next left total
+unfolding so_far_more
 rows_more p die start taken after count i old now next l left total lt rows one = record {
   so_far = so_far_more (with_rows die) (λ (trial : ShownTrial) (row : ShownRow). with_row trial die row) (row_item p start) count i old now next l left total (push die) lt rows.so_far
       (one.0, ap (λ (n : ℕ). row_next p n l) (sym rows.taken_is) ∙ one.1, one.2);

@@ -187,6 +187,7 @@ pub fn read_cert(alloc: Global, problem: &Problem, bytes: &[u8]) -> Result<Run, 
     ensures short { (grid : Slots) → IsGrid problem.now.plan.frame problem.now.plan.terminal grid
         → (run : ShownRun) → IsRunOf problem.now (slot_count grid) run → length (cert_text run) < 2 ^ 30 }
 {
+    let _cells = problem.cells();
     let slots = Grid::of(problem.dies()).slots();
     whole_run(alloc, problem, slots, bytes)
 }
