@@ -86,8 +86,7 @@ spelled : (text : List ℕ) (texts : List (List ℕ)) → IsSolid text → AreSo
 unfolding behind
 spelled text [] solid all more at = (at + length text + 1, (record { at = at; text = text }, words-one text more 10 at solid.some solid.no_blank refl, refl))
 spelled text (next ∷ texts) solid all more at =
-    let later = spelled next texts all.0 all.1 more (at + length text + 1) in
-    (
+    let later = spelled next texts all.0 all.1 more (at + length text + 1) in (
       later.0,
       (
         words_from (at + length text + 1) (next ++ behind texts more),

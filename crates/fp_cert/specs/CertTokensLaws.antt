@@ -318,8 +318,7 @@ rowless_ok p l ending r e =
     let c = bind_ok (below_next (length p.cells) l) _ _ e in
     let cell = below_ok (length p.cells) l c.0.0 c.0.1 c.1 in
     let same = ok_is {A = Ending × Left} (NoRow (record { 0 = c.0.0 }), c.0.1) (ending, r) c.2 in
-    let left : c.0.1 ≡ r = ap (λ (q : Ending × Left). q.1) same in
-    (
+    let left : c.0.1 ≡ r = ap (λ (q : Ending × Left). q.1) same in (
       c.0.0,
       subst (λ (m : Left). Below (length p.cells) c.0.0 l.words m.words) left cell.0,
       ap (λ (q : Ending × Left). q.0) (sym same),

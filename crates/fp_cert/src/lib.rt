@@ -21,3 +21,5 @@ pub use trial_lines::write_lines;
 
 #[cfg(test)]
 mod tests;
+#[cfg(test)]
+mod tests_of_reading;

@@ -44,11 +44,7 @@ fn next_cell(problem: &Problem, tokens: &mut Tokens<'_>) -> Result<CellShown, Te
 }
 
 /// Adds the next cell to a segment.
-fn add_cell(
-    row: &mut RowShown,
-    problem: &Problem,
-    tokens: &mut Tokens<'_>,
-) -> Result<(), TextFault>
+fn add_cell(row: &mut RowShown, problem: &Problem, tokens: &mut Tokens<'_>) -> Result<(), TextFault>
     ensures { Grows with_cell result row.old row.new tokens.new (cell_next problem.now tokens.old) }
 {
     let cell = next_cell(problem, tokens)?;
@@ -153,11 +149,7 @@ fn rows(
 
 /// The next line of a cut net.
 #[tactic(auto, unfolding(crate::specs::CertReading::cut_next))]
-fn next_cut(
-    problem: &Problem,
-    slots: u32,
-    tokens: &mut Tokens<'_>,
-) -> Result<CutShown, TextFault>
+fn next_cut(problem: &Problem, slots: u32, tokens: &mut Tokens<'_>) -> Result<CutShown, TextFault>
     ensures { Gives (λ line. line) result tokens.new (cut_next problem.now slots tokens.old) }
 {
     tokens.keyword(b"Cut")?;

@@ -134,12 +134,7 @@ fn fill_run(
 }
 
 /// Reads the whole file, with a grid of so many slots.
-fn whole_run(
-    alloc: Global,
-    problem: &Problem,
-    slots: u32,
-    bytes: &[u8],
-) -> Result<Run, TextFault>
+fn whole_run(alloc: Global, problem: &Problem, slots: u32, bytes: &[u8]) -> Result<Run, TextFault>
     ensures { GivesRun result (cert_of problem.now slots bytes.now) }
 {
     let mut tokens = Tokens::new(bytes);
