@@ -26,6 +26,7 @@ use Rattle.fp_cert.specs.Shown.{ShownRow, ShownTrial, ShownRun, rows_of}
 use Rattle.fp_cert.specs.CertText.{number_line, pair_line, cell_line, row_lines, die_word, die_lines, cut_line, cut_lines, trial_lines, top_line, top_lines, ending_line, shown_lines, trial_text, trials_text, version_lines, cert_text}
 use Rattle.fp_cert.specs.OfProblem.{most_shown, most_lines, IsTargetAt, IsCellOf, IsRowOf, IsCutOf, cells_in, IsPlacedTrialOf, IsRowlessTrialOf, IsEndedTrialOf, IsTrialOf, IsRunOf}
 use Rattle.fp_cert.specs.CertGrammar.{most_number, most_target, Keyword, Number, Below, Coordinate, TargetAt, IsNumberLine, IsCellLine, IsRowLines, IsDieLines, IsCutLine, IsListed, AreLines, IsTopLine, AreTops, IsEnding, AreShown, IsTrialText, IsVersion, IsCert, ReadsCert}
+use Rattle.fp_cert.specs.CertRunLaws.{run_is}
 
 -- ---- pieces of a text
 
@@ -37,7 +38,7 @@ pub record Says (stands : List Word → List Word → Type 0) (piece : List ℕ)
 abbrev pub Then : (List Word → List Word → Type 0) → (List Word → List Word → Type 0) → List Word → List Word → Type 0
 Then first second words rest = (mid : List Word) × first words mid × second mid rest
 
-then_says : {first second : List Word → List Word → Type 0} {a b : List ℕ} → Says first a → Says second b → Says (Then first second) (a ++ b)
+pub then_says : {first second : List Word → List Word → Type 0} {a b : List ℕ} → Says first a → Says second b → Says (Then first second) (a ++ b)
 then_says {first = first} {second = second} {a = a} {b = b} one other = record {
   said = λ more at.
       let front = one.said (b ++ more) at in
@@ -45,7 +46,7 @@ then_says {first = first} {second = second} {a = a} {b = b} one other = record {
       (back.0, subst (λ (text : List ℕ). Then first second (words_from at text) (words_from back.0 more)) (sym (append_assoc a b more)) (words_from front.0 (b ++ more), front.1, back.1));
 }
 
-says_so : {old new : List Word → List Word → Type 0} {a : List ℕ} → Says old a → ((u v : List Word) → old u v → new u v) → Says new a
+pub says_so : {old new : List Word → List Word → Type 0} {a : List ℕ} → Says old a → ((u v : List Word) → old u v → new u v) → Says new a
 says_so one change = record { said = λ more at. let is = one.said more at in (is.0, change _ _ is.1) }
 
 -- items one behind the other
@@ -249,7 +250,7 @@ die_says p sound die taken rows many all room =
 
 -- ---- a trial
 
-lines_say : (p : Netlist) (slots : ℕ) → IsSound p → slots ≤ 2 ^ 30 → (trial : ShownTrial) → IsPlacedTrialOf p slots trial → Says (AreLines p slots trial) (trial_lines trial)
+pub lines_say : (p : Netlist) (slots : ℕ) → IsSound p → slots ≤ 2 ^ 30 → (trial : ShownTrial) → IsPlacedTrialOf p slots trial → Says (AreLines p slots trial) (trial_lines trial)
 lines_say p slots sound few_slots trial is =
     let few : cells_in trial.top + cells_in trial.bottom ≤ most_lines = is.few_cells in
     let score : trial.score ≤ 2 ^ 60 = is.score in
@@ -391,3 +392,7 @@ says_run p slots sound few_slots run is =
       each = s.1.2;
       answered = subst (λ (ws : List Word). IsNumberLine (codes "Answer") 0 8 run.answer s.0 ws) none s.2;
     })
+
+-- what is read may be written plainly: the text of a run that was read says the same run
+pub says_again : (p : Netlist) (slots : ℕ) → IsSound p → slots ≤ 2 ^ 30 → (bytes : List ℕ) (run : ShownRun) → ReadsCert p slots bytes run → ReadsCert p slots (cert_text run) run
+says_again p slots sound few_slots bytes run reads = says_run p slots sound few_slots run (run_is p slots bytes run reads)
