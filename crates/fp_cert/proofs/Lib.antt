@@ -1,2 +1,4 @@
 mod ByCells
 mod Pieces
+mod ReadLoops
+mod TrialRead

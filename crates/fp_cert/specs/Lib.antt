@@ -9,3 +9,11 @@ pub mod CutLinesLaws
 pub mod RowsLaws
 pub mod Certified
 pub mod OfProblem
+pub mod CertGrammar
+pub mod CertReading
+pub mod Growing
+pub mod CertTokensLaws
+pub mod CertReadingLaws
+pub mod CertRunLaws
+pub mod CertReadBack
+pub mod CertLengthLaws

@@ -7,7 +7,7 @@ use std::process::Abort;
 use std::test::Fail;
 
 /// The certificate of a run of a seed and a trial that was no better, of two cells and one net.
-const KEPT: &str =
+pub const KEPT: &str =
     "FaceplaceCert 1\nLimit 3\nTrials 2\nTrial 0 start\nTopSegments 2\nSegment 1 0\nCell 0 0 0 0 0\nSegment 0 0\n\
 BottomSegments 2\nSegment 1 0\nCell 1 0 0 0 0\nSegment 0 0\nTerminals 1\nCut 0 0 0\nScore 2\nTrial 1 kept\nTopSegments 2\nSegment 0 0\n\
 Segment 0 0\nBottomSegments 2\nSegment 2 12\nCell 1 0 -1 -1 10\nCell 0 5 0 0 0\nSegment 0 0\nTerminals 0\nScore 5\nAnswer 0\n";
@@ -114,7 +114,7 @@ fn fill_rowless(alloc: Global, run: &mut Run) -> Result<(), NoMemory> {
 }
 
 /// The certificate of a run is this text, and is written in two calls of the folder.
-fn expect_text(rt: &impl Abort, alloc: Global, run: &Run, text: &str) -> Result<(), Fail> {
+pub fn expect_text(rt: &impl Abort, alloc: Global, run: &Run, text: &str) -> Result<(), Fail> {
     let mut folder = MemFolder::new(alloc, &[], 1, 1024)?;
     let written = write_cert(&mut folder, "c", run);
     assert!(rt; written.is_ok());

@@ -28,7 +28,7 @@ pub fn write_lines<F: Folder>(writer: &mut Writer, folder: &mut F, name: &str, t
 }
 
 /// The word before a die's segments.
-fn word_of(die: Die) -> &'static [u8]
+pub fn word_of(die: Die) -> &'static [u8]
     ensures { result.now ≡ die_word die }
 {
     match die {
