@@ -9,3 +9,5 @@ pub mod CutLinesLaws
 pub mod RowsLaws
 pub mod Certified
 pub mod OfProblem
+pub mod FewLaws
+pub mod OfProblemLaws
