@@ -1,9 +1,7 @@
 -- What makes a trial, and a run, one of the problem.
 use Rattle.std.specs.Prelude.{◌≡◌, ℕ, suc, ◌+◌, ◌<◌, ◌≤◌, ◌^◌, Bool, true, false, if◌then◌else◌, List, [], ◌∷◌, length, map, get_or, slice_get, Some, None, All}
 use Rattle.std.proofs.Common.{sym, ap, subst, ◌∙◌, arith}
-use Rattle.std.proofs.lemmas.Bool.{cases_lt}
 use Rattle.std.proofs.lemmas.List.{length-map, get_or-map}
-use Rattle.std.proofs.lemmas.List.Elements.{All-map}
 use Rattle.std.proofs.lemmas.Option.{slice_get-get_or}
 use Rattle.fp_base.specs.declared.ids.Die.{Die}
 use Rattle.fp_base.specs.declared.ids.Die.TheVariants.{Top, Bottom}
@@ -13,7 +11,7 @@ use Rattle.fp_tech.specs.Slots.{Slots, slot_count}
 use Rattle.fp_netlist.specs.Netlist.{Netlist, IsSound}
 use Rattle.fp_place.specs.Cut.{cut}
 use Rattle.fp_place.specs.Drawing.{IsCoordinate}
-use Rattle.fp_place.specs.Placed.{Placed, no_spot, spot_at, DoAgree, StandOnce, IsSpotOf, IsPlacementOf}
+use Rattle.fp_place.specs.Placed.{no_spot, spot_at, DoAgree, StandOnce, IsSpotOf, IsPlacementOf}
 use Rattle.fp_cert.specs.declared.shown.CellShown.{CellShown}
 use Rattle.fp_cert.specs.declared.shown.CutShown.{CutShown}
 use Rattle.fp_cert.specs.declared.shown.Ending.{Ending}
@@ -22,7 +20,7 @@ use Rattle.fp_cert.specs.Certified.{row_duals, IsCertified}
 use Rattle.fp_cert.specs.CutLinesLaws.{length-cut_nets, cut_net_at}
 use Rattle.fp_cert.specs.Endings.{has_rows}
 use Rattle.fp_cert.specs.FewLaws.{few_cells_in, few_cut, few_distinct}
-use Rattle.fp_cert.specs.OfProblem.{most_shown, IsTargetAt, IsTargetPoint, IsCellOf, IsRowOf, IsCutOf, IsPlacedTrialOf, IsRowlessTrialOf, IsEndedTrialOf, IsTrialOf, IsRunOf}
+use Rattle.fp_cert.specs.OfProblem.{most_shown, IsTargetAt, IsTargetPoint, IsCellOf, IsRowOf, IsCutOf, IsPlacedTrialOf, IsEndedTrialOf, IsTrialOf, IsRunOf}
 use Rattle.fp_cert.specs.Shown.{ShownRow, ShownTrial, ShownRun, rows_of}
 use Rattle.fp_cert.specs.Standing.{target_by, spots_shown, targets_shown, lane_shown, lanes_shown, placed_shown, dies_shown}
 use Rattle.fp_cert.specs.StandingLaws.{entry_shown, once_of, shows_itself, length-targets_shown}

@@ -6,7 +6,7 @@ use Rattle.fp_base.specs.declared.ids.Die.{Die}
 use Rattle.fp_base.specs.declared.ids.Die.TheVariants.{Top, Bottom}
 use Rattle.fp_base.specs.declared.ids.Point.{Point}
 use Rattle.fp_tech.specs.Plan.{IsPlan}
-use Rattle.fp_tech.specs.Slots.{Slots, slot_count, IsGrid}
+use Rattle.fp_tech.specs.Slots.{Slots, IsGrid}
 use Rattle.fp_netlist.specs.Netlist.{Netlist, IsSound}
 use Rattle.fp_place.specs.Places.{dies_of}
 use Rattle.fp_place.specs.Placed.{Placed, place_of, places_of, DoAgree, IsInOrder}

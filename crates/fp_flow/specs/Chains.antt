@@ -9,7 +9,7 @@ use Rattle.fp_place.specs.Places.{dies_of}
 use Rattle.fp_place.specs.Placed.{Placed, places_of, DoAgree, IsPlacementOf, IsInOrder}
 use Rattle.fp_place.specs.Settled.{KeepRules, settled}
 use Rattle.fp_cert.specs.declared.shown.Ending.TheVariants.{Better}
-use Rattle.fp_cert.specs.Certified.{IsCertified, AreCertified}
+use Rattle.fp_cert.specs.Certified.{AreCertified}
 use Rattle.fp_cert.specs.Endings.{has_rows}
 use Rattle.fp_cert.specs.OfProblem.{IsPlacedTrialOf, IsTrialOf}
 use Rattle.fp_cert.specs.Shown.{ShownTrial, ShownRun, run_without, with_trial}
