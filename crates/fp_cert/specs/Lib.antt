@@ -17,3 +17,5 @@ pub mod CertReadingLaws
 pub mod CertRunLaws
 pub mod CertReadBack
 pub mod CertLengthLaws
+pub mod FewLaws
+pub mod OfProblemLaws

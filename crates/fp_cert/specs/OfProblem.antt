@@ -1,9 +1,8 @@
 -- A run of a problem: its ids are below the problem's counts, its lists are as long as the problem has it, and its numbers are in range.
 use Rattle.std.specs.Prelude.{◌≡◌, ℕ, ◌+◌, ◌<◌, ◌≤◌, ◌^◌, List, [], length, All, ℤ, pos, neg_ℤ, ◌≤ℤ◌}
 use Rattle.std.specs.List.{sum_by}
-use Rattle.fp_base.specs.declared.ids.CellId.{CellId}
 use Rattle.fp_base.specs.declared.ids.Die.{Die}
-use Rattle.fp_base.specs.declared.ids.Die.TheVariants.{Top, Bottom}
+use Rattle.fp_base.specs.declared.ids.Point.{Point}
 use Rattle.fp_tech.specs.Plan.{segments}
 use Rattle.fp_netlist.specs.Netlist.{Netlist}
 use Rattle.fp_place.specs.Drawing.{IsCoordinate}
@@ -25,6 +24,9 @@ most_lines = 2 ^ 18
 pub record IsTargetAt (at : ℤ) : Type 0 where
   pub least : neg_ℤ (pos (2 ^ 32)) ≤ℤ at
   pub most : at ≤ℤ pos (2 ^ 32)
+
+abbrev pub IsTargetPoint : Point → Type 0
+IsTargetPoint point = IsTargetAt point.x × IsTargetAt point.y
 
 pub record IsCellOf (p : Netlist) (cell : CellShown) : Type 0 where
   pub within : cell.cell.0 < length p.cells

@@ -29,17 +29,17 @@ use Rattle.fp_cert.specs.Trials.{weight, row_cell}
 
 -- ---- how often numbers stand in a list
 
-abbrev counted : Bool → ℕ
+abbrev pub counted : Bool → ℕ
 counted true = 1
 counted false = 0
 
 -- how often a number stands in a list
-abbrev times : ℕ → List ℕ → ℕ
+abbrev pub times : ℕ → List ℕ → ℕ
 times number [] = 0
 times number (x ∷ xs) = counted (nat_eq x number) + times number xs
 
 -- how often the numbers of a list stand in another, in all
-abbrev times_all : List ℕ → List ℕ → ℕ
+abbrev pub times_all : List ℕ → List ℕ → ℕ
 times_all [] xs = 0
 times_all (number ∷ numbers) xs = times number xs + times_all numbers xs
 
@@ -51,7 +51,7 @@ no_times : (numbers : List ℕ) → times_all numbers [] ≡ 0
 no_times [] = refl
 no_times (number ∷ numbers) = omega (arith, no_times numbers)
 
-one_more : (x : ℕ) (numbers xs : List ℕ) → times_all numbers (x ∷ xs) ≡ times x numbers + times_all numbers xs
+pub one_more : (x : ℕ) (numbers xs : List ℕ) → times_all numbers (x ∷ xs) ≡ times x numbers + times_all numbers xs
 one_more x [] xs = refl
 one_more x (number ∷ numbers) xs =
     let rest = one_more x numbers xs in
@@ -92,7 +92,7 @@ times_fit numbers [] apart = omega (arith, no_times numbers)
 times_fit numbers (x ∷ xs) apart = omega (arith, one_more x numbers xs, times_once x numbers apart, times_fit numbers xs apart)
 
 -- a number of a range stands in it
-in_range : (from count number : ℕ) → from ≤ number → number < from + count → 1 ≤ times number (range_with_len from count)
+pub in_range : (from count number : ℕ) → from ≤ number → number < from + count → 1 ≤ times number (range_with_len from count)
 in_range from zero number low high = absurd (omega (arith, low, high))
 in_range from (suc count) number low high = by (nat_eq from number) refl (λ above. in_range (from + 1) count number above (omega (arith, high)))
   where

@@ -5,7 +5,7 @@ use Rattle.std.specs.List.{range_with_len}
 use Rattle.std.proofs.Common.{refl, sym, ap, subst, ◌∙◌, arith}
 use Rattle.std.proofs.lemmas.Bool.Decides.{nat_tests}
 use Rattle.std.proofs.lemmas.List.Folds.{find-append}
-use Rattle.std.proofs.lemmas.List.FromFn.{fill_by_all}
+use Rattle.std.proofs.lemmas.List.FromFn.{fill_by_all, get_or-map-range_with_len, length-map-range_with_len}
 use Rattle.std.proofs.lemmas.Option.{same_Some, slice_get-map, get_or_from_slice_get}
 use Rattle.fp_base.specs.declared.ids.CellId.{CellId}
 use Rattle.fp_base.specs.declared.ids.Die.{Die}
@@ -255,10 +255,36 @@ stand_there trial cells once die segment rank row shown there at = by (stand_of 
 
 -- ---- what a trial shows of a placement whose lanes it lists
 
+-- in a placement each cell stands once
+pub once_of : (placed : Placed) (cells : ℕ) → DoAgree placed → length placed.spots ≡ cells → StandOnce cells placed.top placed.bottom
+once_of placed cells agree many = record {
+  there = λ cell below.
+      let spot = spot_at placed.spots cell in
+      (spot.die, spot.segment, spot.rank, agree.spot_named cell (omega (arith, below, many)));
+  within = λ die segment rank cell at. let below = agree.within die segment rank cell at in omega (arith, below, many);
+  one_die = λ a b i j r s cell at other. sym (agree.entry_named a i r cell at).die_is ∙ (agree.entry_named b j s cell other).die_is;
+  one_segment = λ a b i j r s cell at other. sym (agree.entry_named a i r cell at).segment_is ∙ (agree.entry_named b j s cell other).segment_is;
+  one_rank = λ a b i j r s cell at other. sym (agree.entry_named a i r cell at).rank_is ∙ (agree.entry_named b j s cell other).rank_is;
+}
+
 -- each line shows its cell as it stands in lists by cell
 abbrev pub ShowsEach : ShownTrial → List Spot → List Point → Type 0
 ShowsEach trial spots targets = (die : Die) (segment rank : ℕ) (row : ShownRow) (shown : CellShown) → slice_get (rows_of trial die) segment ≡ Some row → slice_get row.cells rank ≡ Some shown
     → (shown.x ≡ (spot_at spots shown.cell.0).x) × (shown.target ≡ get_or targets shown.cell.0 (target_by None))
+
+-- and each line shows its cell as the trial does, where each cell is listed once
+pub shows_itself : (p : Netlist) (trial : ShownTrial) → StandOnce (length p.cells) (lanes_shown trial Top) (lanes_shown trial Bottom) → ShowsEach trial (spots_shown p trial) (targets_shown p trial)
+unfolding spots_shown targets_shown
+shows_itself p trial once die segment rank row shown there at =
+    let below = once.within die segment rank shown.cell (entry_shown trial die segment rank row shown there at) in
+    let stand = stand_there trial (length p.cells) once die segment rank row shown there at in
+    let spot = get_or-map-range_with_len (λ cell. spot_by p.plan (stand_of trial cell)) 0 (length p.cells) shown.cell.0 shown.cell.0 no_spot below (omega arith) in
+    let target = get_or-map-range_with_len (λ cell. target_by (stand_of trial cell)) 0 (length p.cells) shown.cell.0 shown.cell.0 (target_by None) below (omega arith) in
+    (sym (ap (λ (s : Spot). s.x) spot ∙ ap (λ o. (spot_by p.plan o).x) stand), sym (target ∙ ap target_by stand))
+
+pub length-targets_shown : (p : Netlist) (trial : ShownTrial) → length (targets_shown p trial) ≡ length p.cells
+unfolding targets_shown
+length-targets_shown p trial = length-map-range_with_len (λ cell. target_by (stand_of trial cell)) 0 (length p.cells)
 
 agree_on : (p : Netlist) (trial : ShownTrial) (placed : Placed) → DoAgree placed → lanes_shown trial Top ≡ placed.top → lanes_shown trial Bottom ≡ placed.bottom
     → Agree placed.spots (lanes_shown trial Top) (lanes_shown trial Bottom)

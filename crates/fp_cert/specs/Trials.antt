@@ -1,6 +1,6 @@
 -- The trials of a run: the first is the seed with its best terminals; each next one settles the dies of the one before it, its base, finds
 -- the targets, chooses rows, and places each row and the terminals best; the run goes on while a trial is better than its base.
-use Rattle.std.specs.Prelude.{◌≡◌, ◌≢◌, ℕ, ◌+◌, ◌<◌, ◌≤◌, max, Bool, true, false, nat_lt, nat_eq, if◌then◌else◌, List, [], ◌∷◌, length, map, filter, get_or, slice_get, Some, Result, Ok, Err, ℤ, pos, ◌+ℤ◌}
+use Rattle.std.specs.Prelude.{◌≡◌, ◌≢◌, ℕ, ◌+◌, ◌<◌, ◌≤◌, max, Bool, true, false, nat_lt, nat_eq, if◌then◌else◌, List, [], ◌∷◌, length, map, filter, All, get_or, slice_get, Some, Result, Ok, Err, ℤ, pos, ◌+ℤ◌}
 use Rattle.std.specs.List.{range_with_len, IsDistinct}
 use Rattle.fp_base.specs.declared.ids.Die.{Die}
 use Rattle.fp_base.specs.declared.ids.Die.TheVariants.{Top, Bottom}
@@ -102,6 +102,7 @@ compared score before = if nat_lt score before then Better else NotBetter
 pub record IsRowless (p : Netlist) (dies : List Die) (cell : ℕ) (trial : ShownTrial) : Type 0 where
   pub ending_is : trial.ending ≡ NoRow (record { 0 = cell })
   pub dies_are : dies_shown p trial ≡ dies
+  pub within : All (λ top. top.0 < length p.cells) trial.top_cells
   pub distinct : IsDistinct nat_eq (map (λ top. top.0) trial.top_cells)
   pub no_top : trial.top ≡ []
   pub no_bottom : trial.bottom ≡ []

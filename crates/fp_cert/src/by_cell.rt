@@ -21,11 +21,7 @@ const NO_LINE: CellShown = CellShown {
 };
 
 /// The line of each cell, in file order, of a trial whose rows list each cell once.
-fn lines_of(
-    alloc: Global,
-    problem: &Problem,
-    trial: &Trial,
-) -> Result<Vec<CellShown>, NoMemory>
+fn lines_of(alloc: Global, problem: &Problem, trial: &Trial) -> Result<Vec<CellShown>, NoMemory>
     requires once { StandOnce (length problem.now.cells) (lanes_shown trial.now Top) (lanes_shown trial.now Bottom) }
     ensures { IfOk result (λ lines. lines.items ≡ lines_shown problem.now trial.now) }
 {

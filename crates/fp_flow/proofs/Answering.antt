@@ -23,6 +23,7 @@ use Rattle.fp_seed.specs.declared.seeding.Seeded.{Seeded}
 use Rattle.fp_seed.specs.Seeded.{IsSeated, SeedGives}
 use Rattle.fp_seed.specs.RulesLaws.{dies_of_seats}
 use Rattle.fp_cert.specs.Endings.{has_rows}
+use Rattle.fp_cert.specs.OfProblemLaws.{chain_of_problem}
 use Rattle.fp_cert.specs.Shown.{ShownTrial, ShownRun}
 use Rattle.fp_cert.specs.Standing.{places_shown, terminals_shown}
 use Rattle.fp_cert.specs.Trials.{no_trial, answer_of}
@@ -106,11 +107,12 @@ first_most p grid limit placed run answer total first can is from at =
     omega (arith, ints, less, mine, its)
 
 -- What is answered.
-pub placed_is : (p : Netlist) (grid : Slots) (limit : ℕ) (placed : Placed) (run : ShownRun) (answer : Placed) (total : ℕ) → IsSound p → IsGrid p.plan.frame p.plan.terminal grid → CanStart p grid placed
-    → pos total ≡ score p (places_of placed) placed.terminals → IsRunFrom p grid limit placed run answer → IsPlaced p limit grid run total answer
-placed_is p grid limit placed run answer total sound is_grid can is from = record {
+pub placed_is : (p : Netlist) (grid : Slots) (limit : ℕ) (placed : Placed) (run : ShownRun) (answer : Placed) (total : ℕ) → IsSound p → 1 ≤ limit → limit ≤ 8 → IsGrid p.plan.frame p.plan.terminal grid
+    → CanStart p grid placed → pos total ≡ score p (places_of placed) placed.terminals → IsRunFrom p grid limit placed run answer → IsPlaced p limit grid run total answer
+placed_is p grid limit placed run answer total sound some few is_grid can is from = record {
   grid_is = is_grid;
   chain = from.whole.chain;
+  run_of_problem = chain_of_problem p grid limit run sound some few from.whole.chain from.whole.trials;
   certified = from.whole.certified;
   seed = seed_scored p grid placed total can.seed is;
   answer_is = sym from.whole.base.shown;

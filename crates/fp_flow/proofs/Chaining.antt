@@ -3,12 +3,13 @@ use Rattle.std.proofs.Common.{◌≡◌, ◌≢◌, ◌⊎◌, ℕ, zero, suc, �
 use Rattle.std.specs.Prelude.{Bool, nat_lt, if◌then◌else◌}
 use Rattle.std.proofs.lemmas.Bool.Decides.{nat_tests}
 use Rattle.std.proofs.lemmas.List.{length-append}
+use Rattle.std.proofs.lemmas.List.Elements.{All-nil, All-cons, All-push}
 use Rattle.std.proofs.lemmas.Bool.{cases_order}
 use Rattle.std.proofs.lemmas.Option.{same_Some, slice_get_within, get_or_from_slice_get, slice_get-get_or}
 use Rattle.fp_base.specs.declared.ids.Die.{Die}
 use Rattle.fp_base.specs.declared.ids.Point.{Point}
 use Rattle.fp_tech.specs.BookLaws.{slice_get-last, slice_get-front}
-use Rattle.fp_tech.specs.Slots.{Slots}
+use Rattle.fp_tech.specs.Slots.{Slots, slot_count}
 use Rattle.fp_netlist.specs.Netlist.{Netlist}
 use Rattle.fp_place.specs.declared.placement.Spot.{Spot}
 use Rattle.fp_place.specs.Places.{dies_of}
@@ -20,6 +21,8 @@ use Rattle.fp_cert.specs.declared.shown.Ending.{Ending}
 use Rattle.fp_cert.specs.declared.shown.Ending.TheVariants.{Start, Better, NotBetter, NoRow}
 use Rattle.fp_cert.specs.Certified.{IsCertified, AreCertified}
 use Rattle.fp_cert.specs.Endings.{has_rows}
+use Rattle.fp_cert.specs.OfProblem.{IsTrialOf}
+use Rattle.fp_cert.specs.OfProblemLaws.{placed_ended}
 use Rattle.fp_cert.specs.Shown.{ShownTrial, ShownRun, with_trial}
 use Rattle.fp_cert.specs.Standing.{dies_shown}
 use Rattle.fp_cert.specs.Trials.{is_better, Does, IsStart, IsStep, last_better, no_trial, answer_of}
@@ -128,6 +131,7 @@ going_on p grid dies limit run answer next base trial going at is = record {
   better = λ number it some it_at. better number it some (among run.trials trial number it it_at);
   answer_is = omega (arith, going.answer_is, length-append run.trials (trial ∷ []));
   last_is = omega (arith, going.answer_is, last_more 0 0 run.trials trial ∙ ap (λ b. if b then 0 + length run.trials else last_better 0 0 run.trials) (sym is.comes.better_is));
+  trials = All-push (IsTrialOf p (slot_count grid)) run.trials trial going.trials is.comes.of_problem;
   certified = certified_more p grid run trial going.certified is.comes.certified;
   last = λ it it_at. subst (λ (t : ShownTrial). IsBase p grid t next) (newest it it_at) is.comes.next.0;
   dies_are = sym (ap (settled p) same_dies ∙ ap (settled p) going.dies_are ∙ settled_twice p (dies_of (places_of answer)) ∙ sym going.dies_are);
@@ -182,6 +186,7 @@ ends_kept p grid dies limit run answer base trial going at is few = record {
     start = λ first first_at. going.start first (sym (slice_get-front run.trials trial 0 (omega (arith, going.answer_is))) ∙ first_at);
     steps = steps_more p grid run.trials trial base run.answer going.answer_is at is.step going.steps;
   };
+  trials = All-push (IsTrialOf p (slot_count grid)) run.trials trial going.trials is.comes.of_problem;
   certified = certified_more p grid run trial going.certified is.comes.certified;
   base = subst (λ (t : ShownTrial). IsBase p grid t answer) (sym answers) (going.last base at);
   least = λ number it it_at has. subst (λ (t : ShownTrial). t.score ≤ it.score) (sym answers) (least number it has (among run.trials trial number it it_at));
@@ -217,6 +222,7 @@ ends_full p grid dies limit run answer going full some = record {
     start = going.start;
     steps = going.steps;
   };
+  trials = going.trials;
   certified = going.certified;
   base = going.last (answer_of run) at;
   least = λ number it it_at has. going.least number (answer_of run) it at it_at;
@@ -243,6 +249,7 @@ begun_going p grid dies limit placed answer run is dies_are =
       better = λ number it some it_at. absurd (omega (arith, some, slice_get_within (is.trial ∷ []) number it it_at));
       answer_is = refl;
       last_is = first_last is.trial is.start.ending_is;
+      trials = All-cons (IsTrialOf p (slot_count grid)) is.trial [] (placed_ended p (slot_count grid) is.trial is.trial.ending is.base.has is.of_problem) (All-nil (IsTrialOf p (slot_count grid)));
       certified = λ number it it_at has. subst (IsCertified p grid) (only number it it_at) is.base.certified;
       last = λ it it_at. subst (λ (t : ShownTrial). IsBase p grid t answer) (only 0 it it_at) is.base;
       dies_are = dies_are ∙ ap (λ (spots : List Spot). settled p (dies_of (map place_of spots))) (sym is.spots_are);

@@ -1,5 +1,5 @@
 -- A trial of placed rows with the best terminals, ended after a base: it is scored and certified, and shows its placement.
-use Rattle.std.proofs.Common.{◌≡◌, ℕ, ◌^◌, ◌≤◌, true, false, List, ◌++◌, length, map, slice_get, Some, None, Option, pos, refl, sym, ap, subst, ◌∙◌}
+use Rattle.std.proofs.Common.{◌≡◌, ℕ, ◌^◌, ◌≤◌, true, false, List, ◌++◌, length, map, slice_get, Some, None, Option, pos, refl, sym, ap, subst, ◌∙◌, arith}
 use Rattle.std.specs.Prelude.{All, Bool, nat_lt, if◌then◌else◌, IfSome, is_some, find}
 use Rattle.std.specs.List.{range_with_len}
 use Rattle.fp_base.specs.declared.ids.Die.{Die}
@@ -7,7 +7,7 @@ use Rattle.fp_base.specs.declared.ids.Die.TheVariants.{Top, Bottom}
 use Rattle.fp_base.specs.declared.ids.Point.{Point}
 use Rattle.fp_tech.specs.Plan.{IsPlan}
 use Rattle.fp_tech.specs.Slots.{Slots, IsGrid}
-use Rattle.fp_netlist.specs.Netlist.{Netlist}
+use Rattle.fp_netlist.specs.Netlist.{Netlist, IsSound}
 use Rattle.fp_place.specs.Places.{dies_of}
 use Rattle.fp_place.specs.Placed.{Placed, place_of, places_of, DoAgree, IsInOrder}
 use Rattle.fp_place.specs.Settled.{KeepRules}
@@ -16,6 +16,7 @@ use Rattle.fp_cert.specs.declared.shown.CutShown.{CutShown}
 use Rattle.fp_cert.specs.declared.shown.Ending.TheVariants.{Better, NotBetter}
 use Rattle.fp_cert.specs.Certified.{row_duals, AreDualsShown, IsCertified}
 use Rattle.fp_cert.specs.Endings.{has_rows}
+use Rattle.fp_cert.specs.OfProblem.{IsTargetPoint}
 use Rattle.fp_cert.specs.Shown.{ShownRow, ShownTrial, rows_of}
 use Rattle.fp_cert.specs.Standing.{Stand, stands, stands_on, is_stand_of, spot_by, target_by, spots_shown, targets_shown, lane_shown, lanes_shown, terminals_shown, placed_shown}
 use Rattle.fp_cert.specs.Trials.{compared, is_better, AreRowsBest, IsScored}
@@ -24,6 +25,7 @@ use Rattle.fp_flow.specs.Bases.{IsBase}
 use Rattle.fp_flow.specs.Slotted.{IsSlotted}
 use Rattle.fp_flow.specs.Steps.{IsLaid, IsEnded, IsFinished}
 use Rattle.fp_flow.proofs.Certifying.{slotted_prices, slotted_prices_small}
+use Rattle.fp_flow.proofs.Ranges.{near_points, slots_within, base_of_problem}
 use Rattle.fp_flow.proofs.Firsts.{shown_placed, shown_scored, slotted_of}
 
 -- ---- what a trial shows of its cells is by its rows
@@ -59,7 +61,7 @@ small_by_rows a b tops bottoms small die = subst (All (λ row. All (λ dual. dua
 
 -- ---- how it ends
 
-ends_with_rows : (score before : ℕ) → has_rows (compared score before) ≡ true
+pub ends_with_rows : (score before : ℕ) → has_rows (compared score before) ≡ true
 ends_with_rows score before = by (nat_lt score before)
   where
     by : (b : Bool) → has_rows (if b then Better else NotBetter) ≡ true
@@ -128,14 +130,17 @@ set_is p grid old mid new placed slotted targets plan is_grid laid rules s tops 
       terminals = terminals;
     })
 
-pub finished : (p : Netlist) (grid : Slots) (before : ℕ) (old mid new : ShownTrial) (placed slotted : Placed) (better : Option Placed) (targets : List Point) → IsPlan p.plan
+pub finished : (p : Netlist) (grid : Slots) (before : ℕ) (old mid new : ShownTrial) (placed slotted : Placed) (better : Option Placed) (targets : List Point) → IsSound p
     → IsGrid p.plan.frame p.plan.terminal grid → IsLaid p targets old placed → KeepRules p (dies_of (places_of placed)) → IsSlotted p grid placed slotted old mid
     → IsEnded p before mid slotted new better → IsFinished p grid before old placed new better
-finished p grid before old mid new placed slotted better targets plan is_grid laid rules s ended = record {
+finished p grid before old mid new placed slotted better targets sound is_grid laid rules s ended = record {
   top_is = tops;
   bottom_is = bottoms;
   scored = set.scored;
   ending_is = ending;
+  of_problem =
+      base_of_problem p grid new slotted sound set.base (subst (All IsTargetPoint) (sym (targets_by_rows p new old tops bottoms ∙ laid.targets_are)) (near_points targets laid.near))
+      (slots_within p grid placed slotted old mid new s (ap (λ (t : ShownTrial). t.cuts) ended.new_is)) (omega (arith, ended.small, scores));
   certified = set.certified;
   better_is = ending_cases.0 ∙ ap is_better (sym (ap (λ (t : ShownTrial). t.ending) ended.new_is));
   next = ending_cases.1;
@@ -155,7 +160,7 @@ finished p grid before old mid new placed slotted better targets plan is_grid la
 
     set : IsSet p grid old placed slotted new
     set =
-        set_is p grid old mid new placed slotted targets plan is_grid laid rules s tops bottoms (ap (λ (t : ShownTrial). t.cuts) ended.new_is)
+        set_is p grid old mid new placed slotted targets sound.plan is_grid laid rules s tops bottoms (ap (λ (t : ShownTrial). t.cuts) ended.new_is)
         (ap (λ (t : ShownTrial). t.top_cells) ended.new_is ∙ ap (λ (t : ShownTrial). t.top_cells) s.after_is)
         (ap has_rows ending ∙ ends_with_rows new.score before) (ap pos scores ∙ ended.total_is)
 

@@ -1,6 +1,6 @@
 -- The first trial shows the seed's cells where they stand, and the best terminals.
-use Rattle.std.proofs.Common.{◌≡◌, ℕ, ◌<◌, true, List, [], ◌∷◌, length, map, get_or, slice_get, Option, Some, None, pos, refl, sym, ap, subst, ◌∙◌, arith}
-use Rattle.std.specs.Prelude.{IfSome}
+use Rattle.std.proofs.Common.{◌≡◌, ℕ, ◌<◌, ◌^◌, true, List, [], ◌∷◌, length, map, get_or, slice_get, Option, Some, None, pos, refl, sym, ap, subst, ◌∙◌, arith}
+use Rattle.std.specs.Prelude.{All, IfSome}
 use Rattle.std.proofs.Math.ListN.{get_or-map}
 use Rattle.std.proofs.lemmas.List.{length-map}
 use Rattle.std.proofs.lemmas.Option.{same_Some, slice_get-map, slice_get-get_or}
@@ -9,8 +9,8 @@ use Rattle.fp_base.specs.declared.ids.Die.{Die}
 use Rattle.fp_base.specs.declared.ids.Die.TheVariants.{Top, Bottom}
 use Rattle.fp_base.specs.declared.ids.Point.{Point}
 use Rattle.fp_tech.specs.Plan.{IsPlan, segments}
-use Rattle.fp_tech.specs.Slots.{Slots, IsGrid}
-use Rattle.fp_netlist.specs.Netlist.{Netlist}
+use Rattle.fp_tech.specs.Slots.{Slots, slot_count, IsGrid}
+use Rattle.fp_netlist.specs.Netlist.{Netlist, IsSound}
 use Rattle.fp_place.specs.declared.placement.Spot.{Spot}
 use Rattle.fp_place.specs.OnSlots.{AreOnCuts, AreOnSlots}
 use Rattle.fp_place.specs.OnSlotsLaws.{slot_in_range}
@@ -27,7 +27,8 @@ use Rattle.fp_cert.specs.declared.shown.Ending.TheVariants.{Start}
 use Rattle.fp_cert.specs.Endings.{has_rows}
 use Rattle.fp_cert.specs.Shown.{ShownRow, ShownTrial, rows_of, trial_without}
 use Rattle.fp_cert.specs.Standing.{target_by, spots_shown, targets_shown, places_shown, lane_shown, lanes_shown, terminals_shown, placed_shown, dies_shown}
-use Rattle.fp_cert.specs.StandingLaws.{ShowsEach, spots_are, targets_are}
+use Rattle.fp_cert.specs.OfProblem.{IsTargetPoint, IsPlacedTrialOf}
+use Rattle.fp_cert.specs.StandingLaws.{ShowsEach, once_of, spots_are, targets_are}
 use Rattle.fp_cert.specs.CutLinesLaws.{terminals_are}
 use Rattle.fp_cert.specs.Trials.{cut_nets, no_seat, IsAt, IsScored, IsStart}
 use Rattle.fp_flow.specs.Bases.{IsBase}
@@ -35,19 +36,8 @@ use Rattle.fp_flow.specs.Firsts.{IsSeedPlaced}
 use Rattle.fp_flow.specs.Slotted.{IsSlotted}
 use Rattle.fp_flow.specs.Still.{still_cell, still_row, with_still}
 use Rattle.fp_flow.proofs.Certifying.{slotted_prices, slotted_prices_small, still_duals, still_duals_small}
+use Rattle.fp_flow.proofs.Ranges.{own_points, slots_within, base_of_problem}
 use Rattle.fp_flow.proofs.Stills.{mapped}
-
--- in a placement each cell stands once
-pub once_of : (placed : Placed) (cells : ℕ) → DoAgree placed → length placed.spots ≡ cells → StandOnce cells placed.top placed.bottom
-once_of placed cells agree many = record {
-  there = λ cell below.
-      let spot = spot_at placed.spots cell in
-      (spot.die, spot.segment, spot.rank, agree.spot_named cell (omega (arith, below, many)));
-  within = λ die segment rank cell at. let below = agree.within die segment rank cell at in omega (arith, below, many);
-  one_die = λ a b i j r s cell at other. sym (agree.entry_named a i r cell at).die_is ∙ (agree.entry_named b j s cell other).die_is;
-  one_segment = λ a b i j r s cell at other. sym (agree.entry_named a i r cell at).segment_is ∙ (agree.entry_named b j s cell other).segment_is;
-  one_rank = λ a b i j r s cell at other. sym (agree.entry_named a i r cell at).rank_is ∙ (agree.entry_named b j s cell other).rank_is;
-}
 
 -- ---- lanes as they stand
 
@@ -165,13 +155,14 @@ seat_at placed seats cell are below =
 
 pub record IsFirst (p : Netlist) (grid : Slots) (trial : ShownTrial) (slotted : Placed) : Type 0 where
   pub start : IsStart p grid trial
+  pub of_problem : IsPlacedTrialOf p (slot_count grid) trial
   pub base : IsBase p grid trial slotted
 
-pub first_is : (p : Netlist) (grid : Slots) (placed slotted : Placed) (filled : ShownTrial) (total : ℕ) → IsPlan p.plan → IsGrid p.plan.frame p.plan.terminal grid
+pub first_is : (p : Netlist) (grid : Slots) (placed slotted : Placed) (filled : ShownTrial) (total : ℕ) → IsSound p → IsGrid p.plan.frame p.plan.terminal grid
     → IsPlacementOf p placed → DoAgree placed → IsInOrder p placed → KeepRules p (dies_of (places_of placed)) → IsSeedPlaced p grid placed
-    → IsSlotted p grid placed slotted (with_still placed (trial_without Start 0)) filled → pos total ≡ score p (places_of slotted) slotted.terminals
+    → IsSlotted p grid placed slotted (with_still placed (trial_without Start 0)) filled → pos total ≡ score p (places_of slotted) slotted.terminals → total < 2 ^ 53
     → IsFirst p grid (record filled { ending = Start; score = total }) slotted
-first_is p grid placed slotted filled total plan is_grid is agree order rules seed s score_is = record {
+first_is p grid placed slotted filled total sound is_grid is agree order rules seed s score_is small = record {
   start = record {
     ending_is = refl;
     lanes = long;
@@ -186,21 +177,10 @@ first_is p grid placed slotted filled total plan is_grid is agree order rules se
     };
     scored = scored;
   };
-  base = record {
-    has = refl;
-    shown = shown;
-    of_problem = kept.of_problem;
-    agree = kept.agree;
-    in_order = kept.in_order;
-    rules = kept.rules;
-    scored = scored;
-    certified = record {
-      duals = still_duals p trial placed rows;
-      prices = slotted_prices p grid placed slotted bare filled trial is s refl (ap (map place_of) spots) terminals;
-      small_duals = still_duals_small trial placed rows;
-      small_prices = slotted_prices_small p grid placed slotted bare filled trial s refl;
-    };
-  };
+  of_problem =
+      base_of_problem p grid trial slotted sound base (subst (All IsTargetPoint) (sym targets) (own_points p placed is)) (slots_within p grid placed slotted bare filled trial s refl)
+      (omega (arith, small));
+  base = base;
 }
   where
     trial : ShownTrial
@@ -259,4 +239,21 @@ first_is p grid placed slotted filled total plan is_grid is agree order rules se
     bare = with_still placed (trial_without Start 0)
 
     kept : IsKept p slotted
-    kept = slotted_keeps p grid placed slotted bare filled plan is_grid s is agree order rules
+    kept = slotted_keeps p grid placed slotted bare filled sound.plan is_grid s is agree order rules
+
+    base : IsBase p grid trial slotted
+    base = record {
+      has = refl;
+      shown = shown;
+      of_problem = kept.of_problem;
+      agree = kept.agree;
+      in_order = kept.in_order;
+      rules = kept.rules;
+      scored = scored;
+      certified = record {
+        duals = still_duals p trial placed rows;
+        prices = slotted_prices p grid placed slotted bare filled trial is s refl (ap (map place_of) spots) terminals;
+        small_duals = still_duals_small trial placed rows;
+        small_prices = slotted_prices_small p grid placed slotted bare filled trial s refl;
+      };
+    }

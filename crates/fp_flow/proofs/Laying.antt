@@ -4,7 +4,7 @@ use Rattle.std.specs.Prelude.{All}
 use Rattle.std.proofs.Math.ListN.{get_or-map}
 use Rattle.std.proofs.lemmas.Int.{ints}
 use Rattle.std.proofs.lemmas.List.{length-map}
-use Rattle.std.proofs.lemmas.List.FromFn.{get_or-map-range_with_len, length-map-range_with_len}
+use Rattle.std.proofs.lemmas.List.FromFn.{length-map-range_with_len}
 use Rattle.std.proofs.lemmas.Option.{slice_get_within, get_or_from_slice_get, slice_get-get_or}
 use Rattle.fp_base.specs.declared.ids.CellId.{CellId}
 use Rattle.fp_base.specs.declared.ids.Die.{Die}
@@ -29,7 +29,7 @@ use Rattle.fp_cert.specs.RowsLaws.{row_is}
 use Rattle.fp_cert.specs.Trials.{row_cell}
 use Rattle.fp_cert.specs.Shown.{ShownRow, ShownTrial, rows_of}
 use Rattle.fp_cert.specs.Standing.{spots_shown, spot_by, stand_of, lanes_shown}
-use Rattle.fp_cert.specs.StandingLaws.{ShowsEach, stand_there, entry_shown, spots_are, targets_are}
+use Rattle.fp_cert.specs.StandingLaws.{ShowsEach, shows_itself, spots_are, targets_are}
 use Rattle.fp_flow.specs.Lanes.{CanPlaceAll}
 use Rattle.fp_flow.specs.Steps.{IsLaidFrom}
 use Rattle.fp_flow.proofs.Layouts.{no_row, AreBest, lanes_best, rows_best, duals_best, small_best, best_of}
@@ -101,12 +101,8 @@ rows_stand p targets top bottom trial xs best same = λ die number segment lane 
 pub x_shown : (p : Netlist) (trial : ShownTrial) → StandOnce (length p.cells) (lanes_shown trial Top) (lanes_shown trial Bottom) → (die : Die) (segment rank : ℕ) (row : ShownRow)
     (shown : CellShown) → slice_get (rows_of trial die) segment ≡ Some row → slice_get row.cells rank ≡ Some shown
     → get_or (map (λ (spot : Spot). spot.x) (spots_shown p trial)) shown.cell.0 (pos 0) ≡ shown.x
-unfolding spots_shown
 x_shown p trial once die segment rank row shown there at =
-    let below = once.within die segment rank shown.cell (entry_shown trial die segment rank row shown there at) in
-    get_or-map (λ (spot : Spot). spot.x) (spots_shown p trial) shown.cell.0 no_spot
-    ∙ ap (λ (spot : Spot). spot.x) (get_or-map-range_with_len (λ cell. spot_by p.plan (stand_of trial cell)) 0 (length p.cells) shown.cell.0 shown.cell.0 no_spot below (omega arith))
-    ∙ ap (λ stand. (spot_by p.plan stand).x) (stand_there trial (length p.cells) once die segment rank row shown there at)
+    get_or-map (λ (spot : Spot). spot.x) (spots_shown p trial) shown.cell.0 no_spot ∙ sym (shows_itself p trial once die segment rank row shown there at).0
 
 pub length-xs : (p : Netlist) (trial : ShownTrial) → length (map (λ (spot : Spot). spot.x) (spots_shown p trial)) ≡ length p.cells
 unfolding spots_shown
@@ -137,10 +133,10 @@ xs_range p targets top bottom trial xs sound best once are =
 
 -- and their placement is what the trial shows.
 pub laid_from : (p : Netlist) (targets : List Point) (top bottom : LaneList) (trial : ShownTrial) (placed : Placed) (xs : List ℤ) → AreBest p targets top bottom trial
-    → StandOnce (length p.cells) top bottom → length targets ≡ length p.cells → trial.cuts ≡ [] → trial.top_cells ≡ [] → xs ≡ map (λ (spot : Spot). spot.x) (spots_shown p trial)
+    → StandOnce (length p.cells) top bottom → length targets ≡ length p.cells → All IsNearTarget targets → trial.cuts ≡ [] → trial.top_cells ≡ [] → xs ≡ map (λ (spot : Spot). spot.x) (spots_shown p trial)
     → IsPlacementOf p placed → placed.top ≡ top → placed.bottom ≡ bottom → map (λ (spot : Spot). spot.x) placed.spots ≡ xs
     → placed.terminals ≡ replicate (length p.nets) None → DoAgree placed → IsLaidFrom p top bottom targets trial placed
-laid_from p targets top bottom trial placed xs best once many no_cuts no_tops are is top_is bottom_is xs_are bare agree = record {
+laid_from p targets top bottom trial placed xs best once many near no_cuts no_tops are is top_is bottom_is xs_are bare agree = record {
   laid = record {
     of_problem = is;
     agree = agree;
@@ -150,6 +146,7 @@ laid_from p targets top bottom trial placed xs best once many no_cuts no_tops ar
     bottom_shown = bottoms;
     spots_are = spots_are p trial placed targets is agree once_placed tops bottoms each;
     targets_are = targets_are p trial placed targets is agree once_placed tops bottoms many each;
+    near = near;
     best = rows_best p targets top bottom trial best;
     duals = duals_best p targets top bottom trial best;
     small = small_best p targets top bottom trial best;

@@ -1,5 +1,6 @@
 mod Slottings
 mod Stills
+mod Ranges
 mod Firsts
 mod Placings
 mod Layouts

@@ -1,11 +1,11 @@
 -- A trial of dies and targets is the next one after their base.
-use Rattle.std.proofs.Common.{◌≡◌, ℕ, true, false, List, map, Some, None, Option, Ok, Err, sym, ap, subst, ◌∙◌}
+use Rattle.std.proofs.Common.{◌≡◌, ℕ, ◌<◌, true, false, List, length, map, Some, None, Option, Ok, Err, sym, ap, subst, ◌∙◌}
 use Rattle.std.specs.Prelude.{IfSome, is_some}
 use Rattle.fp_base.specs.declared.ids.Die.{Die}
 use Rattle.fp_base.specs.declared.ids.Die.TheVariants.{Top, Bottom}
 use Rattle.fp_base.specs.declared.ids.Point.{Point}
-use Rattle.fp_tech.specs.Slots.{Slots}
-use Rattle.fp_netlist.specs.Netlist.{Netlist}
+use Rattle.fp_tech.specs.Slots.{Slots, slot_count}
+use Rattle.fp_netlist.specs.Netlist.{Netlist, IsSound}
 use Rattle.fp_place.specs.declared.placement.Spot.{Spot}
 use Rattle.fp_place.specs.Places.{Place, dies_of}
 use Rattle.fp_place.specs.Placed.{LaneList, Placed, place_of, places_of}
@@ -15,13 +15,14 @@ use Rattle.fp_score.specs.Target.{AreTargets}
 use Rattle.fp_coarse.specs.Picking.{HoldAll}
 use Rattle.fp_coarse.specs.PickingLaws.{keeps_dies}
 use Rattle.fp_cert.specs.Endings.{has_rows}
+use Rattle.fp_cert.specs.OfProblemLaws.{placed_ended, rowless_of_problem}
 use Rattle.fp_cert.specs.Shown.{ShownTrial}
 use Rattle.fp_cert.specs.Standing.{lane_shown, places_shown, targets_shown, dies_shown}
 use Rattle.fp_cert.specs.Trials.{Does, IsRowless, is_better}
 use Rattle.fp_flow.specs.Bases.{IsBase}
 use Rattle.fp_flow.specs.Steps.{IsLaid, IsLaidFrom, IsFinished, IsWith, IsOfTargets, IsNext}
 use Rattle.fp_flow.proofs.Chaining.{base_dies}
-use Rattle.fp_flow.proofs.Finishing.{targets_by_rows, rows_by_rows, best_by_rows}
+use Rattle.fp_flow.proofs.Finishing.{ends_with_rows, targets_by_rows, rows_by_rows, best_by_rows}
 
 -- the placement of picked lanes has the dies that they were picked for
 pub laid_dies : (p : Netlist) (dies : List Die) (top bottom : LaneList) (targets : List Point) (trial : ShownTrial) (placed : Placed) → HoldAll p dies top bottom → KeepRules p dies
@@ -52,7 +53,12 @@ of_rows p grid dies targets top bottom before old new placed better pick hold ru
     is.scored,
     is.ending_is,
   );
-  comes = record { certified = λ has. is.certified; better_is = is.better_is; next = next better is.next };
+  comes = record {
+    of_problem = placed_ended p (slot_count grid) new new.ending (ap has_rows is.ending_is ∙ ends_with_rows new.score before) is.of_problem;
+    certified = λ has. is.certified;
+    better_is = is.better_is;
+    next = next better is.next;
+  };
 }
   where
     next : (o : Option Placed) → IfSome o (λ slotted. IsBase p grid new slotted × (slotted.spots ≡ placed.spots)) → IfSome o (λ slotted. IsBase p grid new slotted × (dies_of (places_of slotted) ≡ dies))
@@ -61,11 +67,12 @@ of_rows p grid dies targets top bottom before old new placed better pick hold ru
         (is.0, ap (λ (spots : List Spot). dies_of (map place_of spots)) is.1 ∙ laid_dies p dies top bottom targets old placed hold rules laid)
 
 -- and that without a row
-pub of_no_row : (p : Netlist) (grid : Slots) (dies : List Die) (targets : List Point) (before cell : ℕ) (trial : ShownTrial) (better : Option Placed) → picked p dies targets ≡ Err cell
-    → IsRowless p dies cell trial → better ≡ None → IsOfTargets p grid dies targets before trial better
-of_no_row p grid dies targets before cell trial better pick rowless none = record {
+pub of_no_row : (p : Netlist) (grid : Slots) (dies : List Die) (targets : List Point) (before cell : ℕ) (trial : ShownTrial) (better : Option Placed) → IsSound p → picked p dies targets ≡ Err cell
+    → cell < length p.cells → IsRowless p dies cell trial → better ≡ None → IsOfTargets p grid dies targets before trial better
+of_no_row p grid dies targets before cell trial better sound pick below rowless none = record {
   does = subst (Does p grid dies targets before trial) (sym pick) rowless;
   comes = record {
+    of_problem = rowless_of_problem p dies (slot_count grid) cell trial sound below rowless;
     certified = λ has. absurd (let no : false ≡ true = ap has_rows (sym rowless.ending_is) ∙ has in cc);
     better_is = ap is_some none ∙ ap is_better (sym rowless.ending_is);
     next = subst (λ (o : Option Placed). IfSome o (λ placed. IsBase p grid trial placed × (dies_of (places_of placed) ≡ dies))) (sym none) tt;

@@ -1,10 +1,11 @@
 -- The cells of the top die, listed by rising number: each die is known from the list, and no cell is listed twice.
 use Rattle.std.proofs.Common.{◌≡◌, ℕ, zero, suc, ◌+◌, ◌<◌, ◌≤◌, Bool, true, false, cond, List, [], ◌∷◌, ◌++◌, length, map, refl, sym, ap, subst, ◌∙◌, arith}
-use Rattle.std.specs.Prelude.{nat_eq, ◌||◌}
+use Rattle.std.specs.Prelude.{All, nat_eq, ◌||◌}
 use Rattle.std.specs.List.{range_with_len, filter, list_any, IsDistinct, AllByRecursion}
 use Rattle.std.proofs.lemmas.Bool.Decides.{nat_tests}
 use Rattle.std.proofs.lemmas.List.{append-nil}
-use Rattle.std.proofs.lemmas.List.FromFn.{fill_by_all, filter_of_map_range_with_len_more}
+use Rattle.std.proofs.lemmas.List.Elements.{All-filter, All-map}
+use Rattle.std.proofs.lemmas.List.FromFn.{fill_by_all, length-range_with_len, get_or-range_with_len, filter_of_map_range_with_len_more}
 use Rattle.fp_base.specs.declared.ids.CellId.{CellId}
 use Rattle.fp_base.specs.declared.ids.Die.{Die}
 use Rattle.fp_base.specs.declared.ids.Die.TheVariants.{Top, Bottom}
@@ -97,6 +98,14 @@ listed_again : (dies : List Die) (count number : ℕ) → number < count → die
 listed_again dies count number below =
     sym (ap (λ b. cond b Top Bottom) (within (λ k. same_die (die_at dies k) Top) number 0 count (omega arith) (omega arith)) ∙ die_again (die_at dies number))
 
+pub tops_within : (dies : List Die) (count : ℕ) → All (λ (cell : CellId). cell.0 < count) (tops_of dies count)
+tops_within dies count =
+    All-filter (λ (cell : CellId). same_die (die_at dies cell.0) Top) (λ (cell : CellId). cell.0 < count) (map cell_of (range_with_len 0 count))
+    (All-map (λ (cell : CellId). cell.0 < count) cell_of (range_with_len 0 count)
+    (λ k d below.
+    let inside : k < count = omega (arith, below, length-range_with_len 0 count) in
+    omega (arith, get_or-range_with_len 0 count k d inside, inside)))
+
 pub dies_again : (dies : List Die) (count : ℕ) → length dies ≡ count → map (λ number. cond (is_listed number (tops_of dies count)) Top Bottom) (range_with_len 0 count) ≡ dies
 dies_again dies count many =
     sym (fill_by_all (λ number. cond (is_listed number (tops_of dies count)) Top Bottom) dies count Top many (λ number below. listed_again dies count number below))
@@ -122,6 +131,7 @@ unfolding dies_shown
 is_rowless p dies cell trial many is = subst (IsRowless p dies cell.0) (sym is) (record {
   ending_is = refl;
   dies_are = dies_again dies (length p.cells) many;
+  within = tops_within dies (length p.cells);
   distinct = tops_distinct dies (length p.cells);
   no_top = refl;
   no_bottom = refl;

@@ -1,5 +1,5 @@
 -- A run of trials while it is made, and when it is whole.
-use Rattle.std.specs.Prelude.{◌≡◌, ℕ, ◌+◌, ◌≤◌, Bool, true, List, length, slice_get, Option, Some, None, IfSome, is_some}
+use Rattle.std.specs.Prelude.{◌≡◌, ℕ, ◌+◌, ◌≤◌, Bool, true, List, length, All, slice_get, Option, Some, None, IfSome, is_some}
 use Rattle.fp_base.specs.declared.ids.Die.{Die}
 use Rattle.fp_tech.specs.Slots.{Slots, slot_count}
 use Rattle.fp_netlist.specs.Netlist.{Netlist}
@@ -9,8 +9,9 @@ use Rattle.fp_place.specs.Places.{dies_of}
 use Rattle.fp_place.specs.Placed.{Placed, places_of, DoAgree, IsPlacementOf, IsInOrder}
 use Rattle.fp_place.specs.Settled.{KeepRules, settled}
 use Rattle.fp_cert.specs.declared.shown.Ending.TheVariants.{Better}
-use Rattle.fp_cert.specs.Certified.{IsCertified, AreCertified}
+use Rattle.fp_cert.specs.Certified.{AreCertified}
 use Rattle.fp_cert.specs.Endings.{has_rows}
+use Rattle.fp_cert.specs.OfProblem.{IsPlacedTrialOf, IsTrialOf}
 use Rattle.fp_cert.specs.Shown.{ShownTrial, ShownRun, run_without, with_trial}
 use Rattle.fp_cert.specs.Standing.{places_shown}
 use Rattle.fp_cert.specs.Trials.{IsStart, IsStep, last_better, IsChain, answer_of}
@@ -32,6 +33,7 @@ pub record IsBegun (p : Netlist) (grid : Slots) (limit : ℕ) (placed : Placed) 
   pub trial : ShownTrial
   pub run_is : run ≡ with_trial (run_without limit p.plan.terminal.cost) trial
   pub start : IsStart p grid trial
+  pub of_problem : IsPlacedTrialOf p (slot_count grid) trial
   pub base : IsBase p grid trial answer
   pub spots_are : answer.spots ≡ placed.spots
 
@@ -44,6 +46,7 @@ pub record IsGoing (p : Netlist) (grid : Slots) (dies : List Die) (limit : ℕ) 
   pub better : (number : ℕ) (trial : ShownTrial) → 1 ≤ number → slice_get run.trials number ≡ Some trial → trial.ending ≡ Better
   pub answer_is : run.answer + 1 ≡ length run.trials
   pub last_is : run.answer ≡ last_better 0 0 run.trials
+  pub trials : All (IsTrialOf p (slot_count grid)) run.trials
   pub certified : AreCertified p grid run
   pub last : (trial : ShownTrial) → slice_get run.trials run.answer ≡ Some trial → IsBase p grid trial answer
   pub dies_are : dies ≡ settled p (dies_of (places_of answer))
@@ -52,6 +55,7 @@ pub record IsGoing (p : Netlist) (grid : Slots) (dies : List Die) (limit : ℕ) 
 -- the run of a problem and a limit, with the placement of its answer, which scores least of all trials that placed their cells
 pub record IsWhole (p : Netlist) (grid : Slots) (limit : ℕ) (run : ShownRun) (answer : Placed) : Type 0 where
   pub chain : IsChain p grid limit run
+  pub trials : All (IsTrialOf p (slot_count grid)) run.trials
   pub certified : AreCertified p grid run
   pub base : IsBase p grid (answer_of run) answer
   pub least : (number : ℕ) (trial : ShownTrial) → slice_get run.trials number ≡ Some trial → has_rows trial.ending ≡ true → (answer_of run).score ≤ trial.score

@@ -6,7 +6,7 @@ use Rattle.fp_tech.specs.Slots.{Slots, slot_count, centre_of}
 use Rattle.fp_netlist.specs.Netlist.{Netlist}
 use Rattle.fp_place.specs.Places.{dies_of}
 use Rattle.fp_place.specs.Placed.{Placed, places_of}
-use Rattle.fp_match.specs.Prices.{Solution, ArePrices}
+use Rattle.fp_match.specs.Prices.{Solution, IsChoice, ArePrices}
 use Rattle.fp_score.specs.SlotBest.{chosen_terminals, IsSlotBest}
 use Rattle.fp_slots.specs.Table.{SlotTable, net_of, cost_of, IsCostsOf}
 use Rattle.fp_cert.specs.declared.shown.CutShown.{CutShown}
@@ -36,6 +36,7 @@ pub record IsSlotted (p : Netlist) (grid : Slots) (placed slotted : Placed) (bef
   pub costs : IsCostsOf p placed grid table
   pub slotted_is : slotted ≡ record placed { terminals = chosen_terminals p grid (dies_of (places_of placed)) solution.chosen }
   pub best : IsSlotBest p (places_of placed) grid slotted.terminals
+  pub choice : IsChoice (length table.rows) (slot_count grid) solution.chosen
   pub prices : ArePrices (cost_of table) (slot_count grid) solution.chosen solution.prices
   pub capped : All (λ price. price ≤ 2 ^ 36) solution.prices
   pub many_prices : length solution.prices ≡ slot_count grid

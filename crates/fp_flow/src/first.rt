@@ -8,6 +8,7 @@ ghost use Rattle.fp_place.specs.Places.{dies_of};
 ghost use Rattle.fp_place.specs.Placed.{places_of, DoAgree, IsPlacementOf, IsInOrder};
 ghost use Rattle.fp_place.specs.Settled.{KeepRules};
 ghost use Rattle.fp_cert.specs.declared.shown.Ending.TheVariants.{Start};
+ghost use Rattle.fp_cert.specs.OfProblem.{IsPlacedTrialOf};
 ghost use Rattle.fp_cert.specs.Shown.{trial_without};
 ghost use Rattle.fp_cert.specs.Trials.{IsStart};
 ghost use Rattle.fp_flow.specs.Bases.{IsBase};
@@ -45,6 +46,7 @@ pub fn fill_first(
     requires seed { IsSeedPlaced problem.now grid.now placement.old }
     requires empty { trial.old ≡ trial_without Start 0 }
     ensures start { OnOk result (IsStart problem.now grid.now trial.new) }
+    ensures in_range { OnOk result (IsPlacedTrialOf problem.now (slot_count grid.now) trial.new) }
     ensures base { OnOk result (IsBase problem.now grid.now trial.new placement.new) }
     ensures spots { OnOk result (placement.new.spots ≡ placement.old.spots) }
     ensures row_room { OnOk result (matcher.new.row_room ≡ matcher.old.row_room) }

@@ -1,9 +1,10 @@
 //! The layout of chosen rows: each cell where its row costs the least.
 
-ghost use Rattle.std.specs.Prelude.{◌≡◌, [], IfOk, length, map};
+ghost use Rattle.std.specs.Prelude.{◌≡◌, [], All, IfOk, length, map};
 ghost use Rattle.fp_base.specs.declared.ids.Die.TheVariants as sides;
 ghost use Rattle.fp_tech.specs.Plan.{segments};
 ghost use Rattle.fp_place.specs.Placed.{StandOnce};
+ghost use Rattle.fp_coarse.specs.Targets.{IsNearTarget};
 ghost use Rattle.fp_cert.specs.Standing.{spots_shown};
 ghost use Rattle.fp_flow.specs.Lanes.{CanPlaceAll, AddsBestRows};
 ghost use Rattle.fp_flow.specs.Steps.{IsLaidFrom, AddsBoth};
@@ -33,6 +34,7 @@ pub fn lay(
     scratch: &mut RowScratch,
 ) -> Result<Laid, NoMemory>
     requires targets { length targets.now ≡ length problem.now.cells }
+    requires near { All IsNearTarget targets.now }
     requires once { StandOnce (length problem.now.cells) top bottom }
     requires top_lanes { length top ≡ length (segments problem.now.plan sides.Top) }
     requires bottom_lanes { length bottom ≡ length (segments problem.now.plan sides.Bottom) }

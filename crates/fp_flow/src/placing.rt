@@ -86,6 +86,7 @@ fn place_seed(
     seeded: Seeded,
 ) -> Result<Outcome, NoMemory>
     requires some { 1 ≤ limit }
+    requires few { limit ≤ 8 }
     requires seed { SeedGives problem.now (Ok seeded) }
     requires in_order { IsInOrder problem.now seeded.placement }
     requires of_problem { IsPlacementOf problem.now seeded.placement }

@@ -1,4 +1,4 @@
-use Rattle.std.proofs.Common.{◌≡◌, ◌∙◌, map, ap, arith}
+use Rattle.std.proofs.Common.{◌∙◌, map, ap, arith}
 use Rattle.std.proofs.lemmas.List.{take_all}
 use Rattle.fp_cert.specs.declared.shown.CellShown.{CellShown}
 use Rattle.fp_cert.specs.StandingLaws.{targets_of_lines}

@@ -22,10 +22,13 @@ first c =
     let before = c.in_ok-show_still.ensures ∙ ap (with_still placed) c.requires.empty in
     let s = subst (λ (trial : ShownTrial). IsSlotted p c.args.grid.now placed slotted trial c.place_terminals.new.trial) before c.in_ok-place_terminals.ensures.slotted in
     subst (λ (trial : ShownTrial). IsFirst p c.args.grid.now trial slotted) (sym c.end.ensures)
-    (first_is p c.args.grid.now placed slotted c.place_terminals.new.trial c.score.result c.cells-cells.ensures.sound.plan c.requires.grid c.requires.of_problem c.requires.agree c.requires.in_order c.requires.rules c.requires.seed s c.score.ensures.score)
+    (first_is p c.args.grid.now placed slotted c.place_terminals.new.trial c.score.result c.cells-cells.ensures.sound c.requires.grid c.requires.of_problem c.requires.agree c.requires.in_order c.requires.rules c.requires.seed s c.score.ensures.score c.score.ensures.small)
 
 pub returns-clause-start : goal.returns-clause-start
 returns-clause-start c = (first c).start
+
+pub returns-clause-in_range : goal.returns-clause-in_range
+returns-clause-in_range c = (first c).of_problem
 
 pub returns-clause-base : goal.returns-clause-base
 returns-clause-base c = (first c).base

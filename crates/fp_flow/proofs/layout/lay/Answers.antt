@@ -30,7 +30,7 @@ returns c =
     let placed = c.in_ok-placement.field-0 in
     let is = c.in_ok-placement.ensures in
     subst (λ (t : ShownTrial). IsLaidFrom p c.args.top c.args.bottom c.args.targets.now t placed) (sym c.trial.view_is)
-    (laid_from p c.args.targets.now c.args.top c.args.bottom c.place_both.new.trial placed c.deref.result.now (best at) c.requires.once c.requires.targets
+    (laid_from p c.args.targets.now c.args.top c.args.bottom c.place_both.new.trial placed c.deref.result.now (best at) c.requires.once c.requires.targets c.requires.near
     (both_else p c.args.targets.now c.args.top c.args.bottom c.new-trial.result c.place_both.new.trial c.in_ok-xs.ensures.rows ∙ ap (λ (t : ShownTrial). t.cuts) c.new-trial.ensures)
     (both_tops p c.args.targets.now c.args.top c.args.bottom c.new-trial.result c.place_both.new.trial c.in_ok-xs.ensures.rows ∙ ap (λ (t : ShownTrial). t.top_cells) c.new-trial.ensures)
     (xs_are at) is.of_problem is.top is.bottom is.xs is.terminals is.agree)

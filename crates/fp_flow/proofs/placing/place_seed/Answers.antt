@@ -21,6 +21,6 @@ pub returns : goal.returns
 returns c =
     let at = (goal.at.returns c).After-of-grid in (
       c.of-grid.result,
-      placed_is c.args.problem.now c.of-grid.result c.args.limit c.args.seeded.placement c.in_ok-run.run' c.run_from.new.answer c.score-seed_score.result c.cells-cells.ensures.sound (is_grid at)
+      placed_is c.args.problem.now c.of-grid.result c.args.limit c.args.seeded.placement c.in_ok-run.run' c.run_from.new.answer c.score-seed_score.result c.cells-cells.ensures.sound c.requires.some c.requires.few (is_grid at)
           (can at) c.score-seed_score.ensures.score c.in_ok-run.ensures,
     )

@@ -1,4 +1,5 @@
-use Rattle.std.proofs.Common.{◌≡◌, ◌≤◌, List, Ok, sym, subst}
+use Rattle.std.proofs.Common.{◌≡◌, ◌<◌, ◌≤◌, List, length, None, Result, Ok, Err, sym, subst}
+use Rattle.std.specs.Prelude.{IfOk}
 use Rattle.std.proofs.lemmas.Result.{IfOk-weaker}
 use Rattle.fp_base.specs.declared.ids.Die.{Die}
 use Rattle.fp_base.specs.declared.ids.Die.TheVariants.{Top, Bottom}
@@ -8,9 +9,10 @@ use Rattle.fp_place.specs.Places.{dies_of}
 use Rattle.fp_place.specs.Placed.{places_of}
 use Rattle.fp_score.specs.Pick.{picked}
 use Rattle.fp_coarse.specs.Picking.{HoldAll, HoldsAll, IsPicked}
+use Rattle.fp_cert.specs.Trials.{IsRowless}
 use Rattle.fp_flow.specs.Steps.{IsFinished, IsOfTargets}
 use Rattle.fp_flow.proofs.Laying.{can_place}
-use Rattle.fp_flow.proofs.Stepping.{laid_dies, laid_rules, of_rows}
+use Rattle.fp_flow.proofs.Stepping.{laid_dies, laid_rules, of_rows, of_no_row}
 use Rattle.fp_flow.proofs.step.by_targets.Goals as goal
 use Rattle.fp_flow.proofs.step.by_targets.Goals.{In-Rows, In_ok-laid-in-Rows}
 
@@ -52,3 +54,19 @@ returns-in_ok-laid-in-Rows-clause-made c =
     (λ made. IsOfTargets p c.args.grid.now dies c.args.targets.now c.args.before made.trial made.better)
     (λ made is. of_rows p c.args.grid.now dies c.args.targets.now c.in-Rows.top c.in-Rows.bottom c.args.before old.trial made.trial old.placement made.better pick holds c.requires.rules
     c.in_ok-laid-in-Rows.ensures is) c.finish.ensures.made
+
+both_ok : {X Y : Type 0} (P Q R : X → Type 0) (r : Result X Y) → ((x : X) → P x → Q x → R x) → IfOk r P → IfOk r Q → IfOk r R
+both_ok P Q R (Ok x) f p q = f x p q
+both_ok P Q R (Err e) f p q = tt
+
+pub returns-in-NoRow-clause-made : goal.returns-in-NoRow-clause-made
+returns-in-NoRow-clause-made c =
+    let p = c.args.problem.now in
+    let dies = c.args.dies.now in
+    let cell = c.in-NoRow.cell.0 in
+    let pick : picked p dies c.args.targets.now ≡ Err cell = subst (IsPicked p dies c.args.targets.now) c.in-NoRow.is c.in_ok-top.ensures.picked in
+    let below : cell < length p.cells = subst (HoldsAll p dies) c.in-NoRow.is c.in_ok-top.ensures.holds in
+    both_ok (λ made. IsRowless p dies cell made.trial) (λ made. made.better ≡ None)
+    (λ made. IsOfTargets p c.args.grid.now dies c.args.targets.now c.args.before made.trial made.better) c.without_row.result
+    (λ made rowless none. of_no_row p c.args.grid.now dies c.args.targets.now c.args.before cell made.trial made.better c.cells-cells.ensures.sound pick below rowless none)
+    c.without_row.ensures.trial c.without_row.ensures.none

@@ -15,4 +15,4 @@ ended-requires-clause-on_cuts c =
 pub returns-clause-made : goal.returns-clause-made
 returns-clause-made c =
     finished c.args.problem.now c.args.grid.now c.args.before c.args.laid.trial c.place_terminals.new.trial c.ended.result.trial c.args.laid.placement c.place_terminals.new.placement
-    c.ended.result.better _ c.cells-cells.ensures.sound.plan c.requires.grid c.requires.laid c.requires.rules c.in_ok-place_terminals.ensures.slotted c.ended.ensures
+    c.ended.result.better _ c.cells-cells.ensures.sound c.requires.grid c.requires.laid c.requires.rules c.in_ok-place_terminals.ensures.slotted c.ended.ensures

@@ -3,7 +3,7 @@ use Rattle.fp_base.specs.declared.ids.Point.{Point}
 use Rattle.fp_tech.specs.Slots.{Slots, slot_count}
 use Rattle.fp_place.specs.Places.{dies_of}
 use Rattle.fp_place.specs.Placed.{Placed, places_of}
-use Rattle.fp_match.specs.Prices.{ArePrices}
+use Rattle.fp_match.specs.Prices.{IsChoice, ArePrices}
 use Rattle.fp_score.specs.SlotBest.{chosen_terminals, IsSlotBest}
 use Rattle.fp_slots.specs.LeastLaws.{least_is_best, chosen_by_rows}
 use Rattle.fp_slots.specs.Table.{cost_of}
@@ -37,6 +37,7 @@ returns-clause-slotted c =
       slotted_is = slotted;
       best = subst (IsSlotBest p (places_of placed) grid) (sym (ap (λ (placed : Placed). placed.terminals) slotted))
           (least_is_best p placed grid table solution.chosen c.requires.of_problem is c.solve.ensures.choice c.solve.ensures.least);
+      choice = subst (λ (slots : Slots). IsChoice (length table.rows) (slot_count slots) solution.chosen) is.slots c.solve.ensures.choice;
       prices = subst (λ (slots : Slots). ArePrices (cost_of table) (slot_count slots) solution.chosen solution.prices) is.slots c.solve.ensures.prices;
       capped = c.solve.ensures.capped;
       many_prices = c.solve.ensures.each_column ∙ ap slot_count is.slots;
