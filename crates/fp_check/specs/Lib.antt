@@ -1,4 +1,6 @@
+pub mod Answers
 pub mod Conditions
+pub mod DrawnLegalLaws
 pub mod Finding
 pub mod Marks
 pub mod Rooms
