@@ -6,5 +6,6 @@ pub mod Marks
 pub mod Rooms
 pub mod Seeds
 pub mod ShownLaws
+pub mod SlotsShownLaws
 pub mod Sound
 pub mod Views
