@@ -1,5 +1,5 @@
 -- The lines of cut nets in the best slots have slots of their own.
-use Rattle.std.specs.Prelude.{◌≡◌, ◌≢◌, ℕ, ◌<◌, ◌≤◌, ◌⊎◌, true, false, nat_eq, List, length, map, get_or, Some, ◌+ℤ◌, ◌≤ℤ◌}
+use Rattle.std.specs.Prelude.{◌≡◌, ◌≢◌, ℕ, ◌<◌, ◌≤◌, ◌⊎◌, nat_eq, List, length, map, get_or}
 use Rattle.std.specs.List.{IsDistinct}
 use Rattle.std.proofs.Common.{refl, sym, ap, subst, ◌∙◌, inl, inr, arith}
 use Rattle.std.proofs.lemmas.Bool.{cases_order, ne_eqb}
@@ -16,7 +16,7 @@ use Rattle.fp_netlist.specs.Netlist.{Netlist}
 use Rattle.fp_place.specs.Cut.{cut}
 use Rattle.fp_place.specs.Places.{dies_of}
 use Rattle.fp_score.specs.Score.{terminal_at}
-use Rattle.fp_score.specs.SlotBest.{AreSlots, chosen_terminals, IsSlotBest}
+use Rattle.fp_score.specs.SlotBest.{chosen_terminals, IsSlotBest}
 use Rattle.fp_score.specs.SlotBestLaws.{chosen_for_cut}
 use Rattle.fp_cert.specs.declared.shown.CutShown.{CutShown}
 use Rattle.fp_cert.specs.CutLinesLaws.{terminals_are, length-cut_nets, cut_net_at}

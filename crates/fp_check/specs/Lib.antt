@@ -1,8 +1,13 @@
+pub mod CompleteLaws
 pub mod Conditions
+pub mod CutsLaws
+pub mod DrawsLaws
 pub mod Finding
 pub mod Marks
+pub mod RoomLaws
 pub mod Rooms
 pub mod Seeds
 pub mod ShownLaws
 pub mod Sound
+pub mod StepsLaws
 pub mod Views
