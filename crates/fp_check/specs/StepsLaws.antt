@@ -73,7 +73,7 @@ has_base run number trial at =
       at = ap (slice_get run.trials) next ∙ at;
     }
 
--- of chosen rows
+-- a trial made of a base has chosen rows,
 pub record IsPlacedStep (p : Netlist) (grid : Slots) (base trial : ShownTrial) : Type 0 where
   pub ending_is : trial.ending ≡ compared trial.score base.score
   pub dies_are : dies_shown p trial ≡ settled p (dies_shown p base)
@@ -83,7 +83,7 @@ pub record IsPlacedStep (p : Netlist) (grid : Slots) (base trial : ShownTrial) :
   pub feasible : AreFeasibleShown p trial
   pub scored : IsScored p grid trial
 
--- or without a row for a cell
+-- or it found no row for a cell
 pub record IsRowlessStep (p : Netlist) (base trial : ShownTrial) : Type 0 where
   pub cell : ℕ
   pub ending_is : trial.ending ≡ endings.NoRow (record { 0 = cell })
