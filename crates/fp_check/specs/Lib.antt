@@ -1,11 +1,16 @@
 pub mod Answers
+pub mod CompleteLaws
 pub mod Conditions
+pub mod CutsLaws
 pub mod DrawnLegalLaws
+pub mod DrawsLaws
 pub mod Finding
 pub mod Marks
+pub mod RoomLaws
 pub mod Rooms
 pub mod Seeds
 pub mod ShownLaws
 pub mod SlotsShownLaws
 pub mod Sound
+pub mod StepsLaws
 pub mod Views
