@@ -1,5 +1,5 @@
 -- A placement whose drawings are legal, and drawings of a problem's nets.
-use Rattle.std.specs.Prelude.{◌≡◌, ◌<◌, All, length}
+use Rattle.std.specs.Prelude.{◌<◌, All, length}
 use Rattle.fp_tech.specs.Slots.{Slots}
 use Rattle.fp_netlist.specs.Netlist.{Netlist}
 use Rattle.fp_place.specs.Drawing.{Drawing}

@@ -1,3 +1,4 @@
+pub mod AnswerLaws
 pub mod Answers
 pub mod CompleteLaws
 pub mod Conditions
@@ -12,5 +13,6 @@ pub mod Seeds
 pub mod ShownLaws
 pub mod SlotsShownLaws
 pub mod Sound
+pub mod SoundLaws
 pub mod StepsLaws
 pub mod Views

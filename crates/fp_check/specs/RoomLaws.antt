@@ -39,13 +39,13 @@ use Rattle.fp_check.specs.StepsLaws.{has_base, lane_there}
 
 -- ---- by a trial's ending
 
-stand_once : (p : Netlist) (trial : ShownTrial) (ending : Ending) → has_rows ending ≡ true → ListsOnce p trial ending → StandOnceShown p trial
+pub stand_once : (p : Netlist) (trial : ShownTrial) (ending : Ending) → has_rows ending ≡ true → ListsOnce p trial ending → StandOnceShown p trial
 stand_once p trial endings.Start has lists = lists
 stand_once p trial endings.Better has lists = lists
 stand_once p trial endings.NotBetter has lists = lists
 stand_once p trial (endings.NoRow cell) has lists = absurd (let no : false ≡ true = has in cc)
 
-lanes_picked : (p : Netlist) (base trial : ShownTrial) (ending : Ending) → has_rows ending ≡ true → IsPick p base trial ending → LanesArePicked p trial
+pub lanes_picked : (p : Netlist) (base trial : ShownTrial) (ending : Ending) → has_rows ending ≡ true → IsPick p base trial ending → LanesArePicked p trial
 lanes_picked p base trial endings.Start has pick = pick
 lanes_picked p base trial endings.Better has pick = pick
 lanes_picked p base trial endings.NotBetter has pick = pick

@@ -1,5 +1,5 @@
 -- Laws of a trial that placed its cells and lists each of them once: it shows a placement of the problem, which is in order where its rows are.
-use Rattle.std.specs.Prelude.{◌≡◌, ℕ, ◌<◌, ◌==◌, Bool, true, false, cond, List, [], ◌∷◌, length, map, find, get_or, slice_get, Option, Some, None, option_map, IfSome, All, ◌+ℤ◌, pos}
+use Rattle.std.specs.Prelude.{◌≡◌, ℕ, ◌<◌, ◌==◌, Bool, true, false, cond, List, [], ◌∷◌, length, map, find, get_or, slice_get, Option, Some, None, option_map, IfSome, All, ◌+ℤ◌}
 use Rattle.std.specs.List.{AllByRecursion, range_with_len}
 use Rattle.std.proofs.Common.{refl, sym, ap, subst, ◌∙◌, arith}
 use Rattle.std.proofs.Math.ListN.{get_or-map}
@@ -10,15 +10,13 @@ use Rattle.std.proofs.lemmas.Option.{slice_get_within, get_or_from_slice_get, sl
 use Rattle.fp_base.specs.declared.ids.CellId.{CellId}
 use Rattle.fp_base.specs.declared.ids.Die.{Die}
 use Rattle.fp_base.specs.declared.ids.Die.TheVariants.{Top, Bottom}
-use Rattle.fp_base.specs.declared.ids.Point.{Point}
-use Rattle.fp_tech.specs.declared.dies.Segment.{Segment}
 use Rattle.fp_tech.specs.Plan.{segments, IsPlan}
 use Rattle.fp_tech.specs.Slots.{Slots, slot_count, IsGrid}
 use Rattle.fp_netlist.specs.Netlist.{Netlist}
 use Rattle.fp_place.specs.declared.placement.Spot.{Spot}
 use Rattle.fp_place.specs.OnSlotsLaws.{slot_in_range}
-use Rattle.fp_place.specs.Places.{Place, nowhere, place_at, dies_of}
-use Rattle.fp_place.specs.Placed.{no_spot, spot_at, place_of, lanes_on, entry_at, StandsAt, DoAgree, StandOnce, IsCentre, IsSpotOf, IsPlacementOf, StandBetween, IsInOrder}
+use Rattle.fp_place.specs.Places.{Place, place_at, dies_of}
+use Rattle.fp_place.specs.Placed.{no_spot, spot_at, place_of, lanes_on, entry_at, StandsAt, DoAgree, IsCentre, IsSpotOf, IsPlacementOf, StandBetween, IsInOrder}
 use Rattle.fp_place.specs.PlacedLaws.{row_in_range}
 use Rattle.fp_score.specs.FirstFit.{no_segment, segment_at}
 use Rattle.fp_score.specs.Pick.{point_at}
@@ -31,7 +29,7 @@ use Rattle.fp_cert.specs.OfProblem.{IsCellOf, IsRowOf, IsCutOf, IsPlacedTrialOf,
 use Rattle.fp_cert.specs.RowsLaws.{feasible_in_order}
 use Rattle.fp_cert.specs.Shown.{ShownRow, ShownTrial, ShownRun, rows_of}
 use Rattle.fp_cert.specs.Standing.{stand_of, spot_by, target_by, terminal_by, spots_shown, targets_shown, places_shown, lane_shown, lanes_shown, terminals_shown, placed_shown, dies_shown}
-use Rattle.fp_cert.specs.StandingLaws.{entry_shown, IsLine, line_of, stand_there}
+use Rattle.fp_cert.specs.StandingLaws.{entry_shown, line_of, stand_there}
 use Rattle.fp_check.specs.Conditions.{StandOnceShown, AreFeasibleShown}
 
 -- ---- elements of lists

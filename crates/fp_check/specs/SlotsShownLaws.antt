@@ -9,25 +9,24 @@ use Rattle.std.proofs.lemmas.List.FromFn.{length-map-range_with_len, get_or-map-
 use Rattle.std.proofs.lemmas.Map.Keys.{apart_from_distinct, IsDistinct-tail}
 use Rattle.std.proofs.lemmas.Option.{same_Some, slice_get_within, slice_get-map, slice_get-get_or, get_or_from_slice_get}
 use Rattle.fp_base.specs.declared.ids.Die.{Die}
-use Rattle.fp_base.specs.declared.ids.Point.{Point}
 use Rattle.fp_tech.specs.Plan.{IsPlan}
 use Rattle.fp_tech.specs.Slots.{Slots, slot_count, IsGrid, centre_of}
 use Rattle.fp_netlist.specs.Netlist.{Netlist}
-use Rattle.fp_place.specs.Cut.{is_cut, cut_below, cut}
+use Rattle.fp_place.specs.Cut.{cut_below, cut}
 use Rattle.fp_place.specs.CutLaws.{cut_rises, cut_once}
 use Rattle.fp_place.specs.DrawnLaws.{find_yes, find_no}
 use Rattle.fp_place.specs.OnSlots.{AreOnCuts, AreOnSlots}
-use Rattle.fp_place.specs.Places.{Place, dies_of}
+use Rattle.fp_place.specs.Places.{dies_of}
 use Rattle.fp_score.specs.Score.{terminal_at, net_length}
 use Rattle.fp_score.specs.ScoreLaws.{net_length_by, net_length_from_0}
 use Rattle.fp_score.specs.SlotBest.{AreSlots, chosen_terminals, IsSlotBest}
 use Rattle.fp_score.specs.SlotBestLaws.{chosen_on_cuts, chosen_on_slots}
-use Rattle.fp_match.specs.Prices.{IsUsed, IsChoice, IsLeast, ArePrices}
+use Rattle.fp_match.specs.Prices.{IsUsed}
 use Rattle.fp_match.specs.PriceLaws.{least_by_prices}
 use Rattle.fp_slots.specs.LeastLaws.{AreNetCosts, least_is_best_by}
 use Rattle.fp_cert.specs.declared.shown.CutShown.{CutShown}
 use Rattle.fp_cert.specs.Certified.{price_by, price_shown, slot_cost, ArePricesShown}
-use Rattle.fp_cert.specs.CutLinesLaws.{terminals_are, length-cut_nets, IsCutNet, cut_net_at}
+use Rattle.fp_cert.specs.CutLinesLaws.{terminals_are, length-cut_nets, cut_net_at}
 use Rattle.fp_cert.specs.OfProblem.{IsCutOf}
 use Rattle.fp_cert.specs.Shown.{ShownTrial}
 use Rattle.fp_cert.specs.Standing.{places_shown, terminals_shown, dies_shown}
