@@ -2,6 +2,7 @@ pub mod AnswerLaws
 pub mod Answers
 pub mod CompleteLaws
 pub mod Conditions
+pub mod ConditionsLaws
 pub mod CutsLaws
 pub mod DrawnLegalLaws
 pub mod DrawsLaws
@@ -10,6 +11,7 @@ pub mod Marks
 pub mod RoomLaws
 pub mod Rooms
 pub mod Seeds
+pub mod SeedsLaws
 pub mod ShownLaws
 pub mod SlotsShownLaws
 pub mod Sound

@@ -34,7 +34,8 @@ use Rattle.fp_cert.specs.Shown.{ShownTrial, ShownRun}
 use Rattle.fp_cert.specs.Standing.{spots_shown, targets_shown, places_shown, terminals_shown, placed_shown, dies_shown}
 use Rattle.fp_cert.specs.Trials.{row_cells, row_xs, AreRowsBest, IsScored, no_seat, IsFromSeed, IsStart, compared, IsRowless, Does, IsStep, no_trial, IsChain, answer_of}
 use Rattle.fp_check.specs.AnswerLaws.{answer_at, answer_least}
-use Rattle.fp_check.specs.Answers.{IsRightAnswer, AreNetsOf}
+use Rattle.fp_check.specs.Answers.{IsRightAnswer}
+pub use Rattle.fp_check.specs.Answers.{AreNetsOf}
 use Rattle.fp_check.specs.Conditions.{Condition, TrialsGoOn, CellsStandOnce, StartsFromSeed, DiesKeepRules, DiesAreSettled, HaveTargets, HaveRows, RowsAreFeasible, RowsHaveDuals, CutNetsAreListed, SlotsHavePrices, ScoresAreRight, BetterIsBetter, DrawsAnswer, Holds, number_of, CertOk, OfEach, OfNext, OfPlaced, OfNextPlaced, IsScoreOf, Draws, GoesOnFromStart, StandOnceShown, ListsOnce, LanesArePicked, HasNoRow, IsPick, AreFeasibleShown, AreCutsListed}
 use Rattle.fp_check.specs.DrawnLegalLaws.{drawn_legal}
 use Rattle.fp_check.specs.RoomLaws.{stand_once, lanes_picked, rooms}
