@@ -1,4 +1,5 @@
 pub mod Conditions
+pub mod CutLines
 pub mod Finding
 pub mod Marks
 pub mod Rooms
