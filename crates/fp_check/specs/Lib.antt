@@ -6,6 +6,7 @@ pub mod ConditionsLaws
 pub mod CutsLaws
 pub mod DrawnLegalLaws
 pub mod DrawsLaws
+pub mod CutLines
 pub mod Finding
 pub mod Marks
 pub mod RoomLaws
