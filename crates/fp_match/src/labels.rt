@@ -72,14 +72,15 @@ impl Labels {
         self.last = self.at;
     }
 
-    /// The place of the nearest row that waits. It is `count` where none does.
+    /// The place of the nearest row that waits, and of equally near ones the last: a search that goes deep first comes to an unused
+    /// column sooner. It is `count` where none waits.
     fn nearest(&self) -> usize
         requires { CanTake self.now }
         ensures { IsNearest self.now result }
     {
         let mut best = self.at + 1;
         for place in self.at + 1..self.count {
-            if self.label[self.reached[place] as usize] < self.label[self.reached[best] as usize] {
+            if self.label[self.reached[place] as usize] <= self.label[self.reached[best] as usize] {
                 best = place;
             }
         }
