@@ -178,6 +178,11 @@ pub record CanTake (l : Labels) : Type 0 where
   pub places : l.count ≤ length l.reached.items
   pub labels : (k : ℕ) → k < l.count → row_at l k < length l.label.items
 
+-- the rows that wait have columns
+pub record HasPrices (m : Matching) (l : Labels) : Type 0 where
+  pub rows : (k : ℕ) → l.at < k → k < l.count → row_at l k < length m.column_of.items
+  pub columns : (k : ℕ) → l.at < k → k < l.count → column_of m (row_at l k) < length m.prices.items
+
 -- the place of the nearest row that waits, if one does
 pub record IsNearest (l : Labels) (k : ℕ) : Type 0 where
   pub waits : l.at < k

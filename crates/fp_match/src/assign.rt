@@ -37,7 +37,7 @@ fn grow<C: Costs>(costs: &C, matching: &Matching, labels: &mut Labels, row: u32)
 {
     scan_row(costs, matching, labels, row);
     loop {
-        if !labels.take_nearest() {
+        if !labels.take_nearest(matching) {
             return;
         }
         scan_row(costs, matching, labels, row);
