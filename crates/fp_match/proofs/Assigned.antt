@@ -10,9 +10,10 @@ use Rattle.fp_match.specs.Prices.{IsChoice, ArePrices, IsLeast}
 use Rattle.fp_match.specs.Owners.{Agree}
 use Rattle.fp_match.specs.OwnerLaws.{choice_by_owners, prices_by_owners}
 use Rattle.fp_match.specs.PriceLaws.{least_by_prices}
-use Rattle.fp_match.specs.Search.{row_at, owner_of, column_of, HasRoom, Fits, AreFar, IsMatching, IsTree, AreCovered, Grown, Scanned, IsTaken, IsStarted, HasReached, IsGrown, IsRoomy, SameSizes, SameRooms, IsCleared, CanReset, CanTake}
+use Rattle.fp_match.specs.Search.{row_at, owner_of, column_of, HasRoom, HasPrices, Fits, AreFar, IsMatching, IsTree, AreCovered, Grown, Scanned, IsTaken, IsStarted, HasReached, IsGrown, IsRoomy, SameSizes, SameRooms, IsCleared, CanReset, CanTake}
 use Rattle.fp_match.proofs.Tree.{count_most}
 use Rattle.fp_match.proofs.Grow.{can_take, tree_taken}
+use Rattle.fp_match.proofs.Insert.{held_row}
 
 pub rooms_refl : (l : Labels) → SameRooms l l
 rooms_refl l = record { labels = refl; parents = refl; places = refl }
@@ -59,6 +60,15 @@ growing_step cost columns row m old l taken l' growing step scanned = record {
 
 pub growing_can_take : (cost : ℕ → ℕ → ℕ) (columns row : ℕ) (m : Matching) (old l : Labels) → IsGrowing cost columns row m old l → CanTake l
 growing_can_take cost columns row m old l growing = can_take cost columns row m l growing.tree
+
+pub growing_prices : (cost : ℕ → ℕ → ℕ) (columns row : ℕ) (m : Matching) (old l : Labels) → IsMatching cost columns row m → Fits columns row m
+    → IsGrowing cost columns row m old l → HasPrices m l
+growing_prices cost columns row m old l matched fits growing = record {
+  rows = λ k waits lt. omega (arith, fits.chosen, held_row cost columns row m l k growing.tree (omega arith) lt);
+  columns = λ k waits lt.
+      let in_row : row_at l k < row = held_row cost columns row m l k growing.tree (omega arith) lt in
+      omega (arith, fits.prices, matched.agree.in_range (row_at l k) in_row);
+}
 
 pub growing_taken : (cost : ℕ → ℕ → ℕ) (columns row : ℕ) (m : Matching) (old l taken : Labels) → IsGrowing cost columns row m old l
     → IsTaken l taken → IsTree cost columns row m taken

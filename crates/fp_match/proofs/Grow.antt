@@ -17,17 +17,17 @@ can_take cost columns row m l tree = record {
 }
 
 -- where the row now at place j stood before
-record Came (l l' : Labels) (k j : ℕ) : Type 0 where
-  place : ℕ
-  place_in : place < l.count
-  same : row_at l' j ≡ row_at l place
-  settled : j ≤ l.at → place ≡ j
-  waits : l.at < j → l.at < place
-  taken : j ≡ l.at + 1 → place ≡ k
-  moved : j ≡ k → place ≡ l.at + 1
-  stays : j ≢ l.at + 1 → j ≢ k → place ≡ j
+pub record Came (l l' : Labels) (k j : ℕ) : Type 0 where
+  pub place : ℕ
+  pub place_in : place < l.count
+  pub same : row_at l' j ≡ row_at l place
+  pub settled : j ≤ l.at → place ≡ j
+  pub waits : l.at < j → l.at < place
+  pub taken : j ≡ l.at + 1 → place ≡ k
+  pub moved : j ≡ k → place ≡ l.at + 1
+  pub stays : j ≢ l.at + 1 → j ≢ k → place ≡ j
 
-came : (l l' : Labels) (k j : ℕ) → IsSettled l l' k → l.count ≤ length l.reached.items → j < l.count → Came l l' k j
+pub came : (l l' : Labels) (k j : ℕ) → IsSettled l l' k → l.count ≤ length l.reached.items → j < l.count → Came l l' k j
 came l l' k j step places lt =
     let size : length (set l.reached.items k (row_at l (l.at + 1))) ≡ length l.reached.items = length-set l.reached.items k (row_at l (l.at + 1)) in
     elim (cases_eq j (l.at + 1)) [

@@ -54,7 +54,7 @@ level_low cost rows columns row m l limits matched fits grown row_in few =
     )
 
 -- rows behind the first have columns
-held_row : (cost : ℕ → ℕ → ℕ) (columns row : ℕ) (m : Matching) (l : Labels) (k : ℕ) → IsTree cost columns row m l → 0 < k → k < l.count
+pub held_row : (cost : ℕ → ℕ → ℕ) (columns row : ℕ) (m : Matching) (l : Labels) (k : ℕ) → IsTree cost columns row m l → 0 < k → k < l.count
     → row_at l k < row
 held_row cost columns row m l k tree pos lt =
     let apart : row_at l 0 ≢ row_at l k = tree.distinct 0 k pos lt in

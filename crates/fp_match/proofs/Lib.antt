@@ -4,4 +4,5 @@ pub mod Grow
 pub mod Steps
 pub mod Augment
 pub mod Insert
+pub mod Runs
 pub mod Assigned

@@ -2,7 +2,7 @@
 use Rattle.std.specs.Prelude.{◌≡◌, ◌≤◌, take, length}
 use Rattle.fp_match.specs.declared.matcher.Matcher.TheInside.{Inside}
 use Rattle.fp_match.specs.Prices.{Solution}
-use Rattle.fp_match.specs.Search.{AreFar}
+use Rattle.fp_match.specs.Search.{AreFar, HasMarks}
 
 abbrev pub solution_of : Inside → Solution
 solution_of m = record {
@@ -21,3 +21,4 @@ pub record IsReady (m : Inside) : Type 0 where
   pub parents : length m.labels.parent.items ≡ length m.matching.column_of.items
   pub places : length m.labels.reached.items ≡ length m.matching.column_of.items
   pub all_far : AreFar m.labels
+  pub marks : HasMarks m.matching m.closed

@@ -2,6 +2,7 @@
 use Rattle.std.specs.Prelude.{◌≡◌, ◌≢◌, ℕ, ◌+◌, ◌*◌, ◌^◌, ◌<◌, ◌≤◌, ◌⊎◌, nat_lt, if◌then◌else◌, min, List, length, slice_index, slice_set}
 use Rattle.fp_match.specs.declared.labels.Labels.{Labels}
 use Rattle.fp_match.specs.declared.matching.Matching.{Matching}
+use Rattle.fp_match.specs.declared.closed.Closed.{Closed}
 use Rattle.fp_match.specs.declared.scan.Turn.{Turn}
 use Rattle.fp_match.specs.Prices.{AreDistinctBelow, IsBest}
 use Rattle.fp_match.specs.Owners.{Agree, unused}
@@ -95,6 +96,33 @@ pub record IsTree (cost : ℕ → ℕ → ℕ) (columns row : ℕ) (m : Matching
   pub linked : (k : ℕ) → 0 < k → k < l.count → IsLink cost row m l k
   pub sunk : l.level < far → IsSink cost columns row m l
 
+-- the column's row lies no farther than the row settled last
+pub record IsClosed (row : ℕ) (m : Matching) (l : Labels) (s : ℕ) : Type 0 where
+  pub held : owner_of m s < row
+  pub near : label_of l (owner_of m s) ≤ label_of l (row_at l l.at)
+
+abbrev pub mark_of : Closed → ℕ → ℕ
+mark_of c s = slice_index c.search.items s
+
+abbrev pub next_of : Closed → ℕ → ℕ
+next_of c s = slice_index c.next.items s
+
+-- there is a mark for each column
+pub record HasMarks (m : Matching) (c : Closed) : Type 0 where
+  pub searches : length c.search.items ≡ length m.owner.items
+  pub nexts : length c.next.items ≡ length m.owner.items
+
+-- only searches from the first rows have marked columns
+pub record AreMarks (rows : ℕ) (m : Matching) (c : Closed) : Type 0 where
+  pub room : HasMarks m c
+  pub earlier : (s : ℕ) → s < length c.search.items → mark_of c s ≤ rows
+
+-- from a column that the search for the row has marked all are closed up to the next one
+pub record AreRuns (row : ℕ) (m : Matching) (l : Labels) (c : Closed) : Type 0 where
+  pub marks : AreMarks (row + 1) m c
+  pub behind : (s : ℕ) → s < length c.search.items → mark_of c s ≡ row + 1 → s < next_of c s
+  pub closed : (s t : ℕ) → s < length c.search.items → mark_of c s ≡ row + 1 → s ≤ t → t < next_of c s → IsClosed row m l t
+
 -- the columns from `from` up to `to` are covered from the row settled last
 abbrev pub AreCovered : (ℕ → ℕ → ℕ) → ℕ → Matching → Labels → ℕ → ℕ → Type 0
 AreCovered cost row m l from to = (s : ℕ) → from ≤ s → s < to → Covered cost row m l (row_at l l.at) s
@@ -177,6 +205,11 @@ pub record CanTake (l : Labels) : Type 0 where
   pub within : l.at < l.count
   pub places : l.count ≤ length l.reached.items
   pub labels : (k : ℕ) → k < l.count → row_at l k < length l.label.items
+
+-- the rows that wait have columns
+pub record HasPrices (m : Matching) (l : Labels) : Type 0 where
+  pub rows : (k : ℕ) → l.at < k → k < l.count → row_at l k < length m.column_of.items
+  pub columns : (k : ℕ) → l.at < k → k < l.count → column_of m (row_at l k) < length m.prices.items
 
 -- the place of the nearest row that waits, if one does
 pub record IsNearest (l : Labels) (k : ℕ) : Type 0 where

@@ -2,7 +2,9 @@
 
 ghost use Rattle.std.specs.Prelude.{◌≡◌, ◌↔◌, ◌<◌, ◌≤◌, ◌+◌, ℕ, IsTrue, length, slice_index};
 ghost use Rattle.std.specs.Bool.{OnTrue, OnFalse};
-ghost use Rattle.fp_match.specs.Search.{IsLowered, IsEntered, IsNearest, IsTaken, IsStarted, HasRoom, AreFar, CanTake, HasReached, CanReset, IsReset};
+ghost use Rattle.fp_match.specs.Search.{IsLowered, IsEntered, IsNearest, IsTaken, IsStarted, HasRoom, HasPrices, AreFar, CanTake, HasReached, CanReset, IsReset, label_of, row_at};
+
+use crate::matching::Matching;
 
 /// The label of a row that is not reached. No distance comes near it.
 pub(crate) const FAR: u64 = 1 << 62;
@@ -72,14 +74,40 @@ impl Labels {
         self.last = self.at;
     }
 
-    /// The place of the nearest row that waits. It is `count` where none does.
-    fn nearest(&self) -> usize
-        requires { CanTake self.now }
+    /// Whether the row at the place lies nearer than the row at the other one. Of two that are equally near it is the one whose column has
+    /// the lower price, or else the one reached later: unused columns are near there.
+    fn is_nearer(&self, matching: &Matching, place: usize, other: usize) -> bool
+        requires take { CanTake self.now }
+        requires held { HasPrices matching.now self.now }
+        requires place_waits { self.now.at < place }
+        requires place_in { place < self.now.count }
+        requires other_waits { self.now.at < other }
+        requires other_in { other < self.now.count }
+        ensures nearer { OnTrue result (label_of self.now (row_at self.now place) ≤ label_of self.now (row_at self.now other)) }
+        ensures farther { OnFalse result (label_of self.now (row_at self.now other) ≤ label_of self.now (row_at self.now place)) }
+    {
+        let row = self.reached[place];
+        let best = self.reached[other];
+        let label = self.label[row as usize];
+        let least = self.label[best as usize];
+        if label < least {
+            return true;
+        }
+        if least < label {
+            return false;
+        }
+        matching.price_held(row) <= matching.price_held(best)
+    }
+
+    /// The place of the nearest row that waits. It is at least `count` where none does.
+    fn nearest(&self, matching: &Matching) -> usize
+        requires take { CanTake self.now }
+        requires held { HasPrices matching.now self.now }
         ensures { IsNearest self.now result }
     {
         let mut best = self.at + 1;
         for place in self.at + 1..self.count {
-            if self.label[self.reached[place] as usize] < self.label[self.reached[best] as usize] {
+            if self.is_nearer(matching, place, best) {
                 best = place;
             }
         }
@@ -87,13 +115,14 @@ impl Labels {
     }
 
     /// Settles the nearest row that waits. It says false where none lies within the level.
-    pub(crate) fn take_nearest(&mut self) -> bool
-        requires { CanTake self.old }
+    pub(crate) fn take_nearest(&mut self, matching: &Matching) -> bool
+        requires take { CanTake self.old }
+        requires held { HasPrices matching.now self.old }
         ensures taken { OnTrue result (IsTaken self.old self.new) }
         ensures stays { OnFalse result (self.new ≡ self.old) }
         ensures none { OnFalse result (HasReached self.old) }
     {
-        let place = self.nearest();
+        let place = self.nearest(matching);
         if place >= self.count {
             return false;
         }

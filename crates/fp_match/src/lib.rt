@@ -3,6 +3,7 @@
 
 mod assign;
 mod choice;
+mod closed;
 mod costs;
 mod labels;
 mod matcher;

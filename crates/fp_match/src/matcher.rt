@@ -5,6 +5,7 @@ ghost use Rattle.fp_match.specs.Prices.{IsChoice, ArePrices, IsLeast};
 
 use crate::assign::assign;
 use crate::choice::UNUSED;
+use crate::closed::Closed;
 use crate::costs::Costs;
 use crate::labels::{FAR, Labels};
 use crate::matching::Matching;
@@ -18,6 +19,7 @@ use std::marker::Model;
 pub struct Matcher {
     matching: Matching,
     labels: Labels,
+    closed: Closed,
     rows: u32,
     columns: u32,
 }
@@ -61,9 +63,14 @@ impl Matcher {
             sink: 0,
             last: 0,
         };
+        let closed = Closed {
+            search: vec![in alloc; 0; columns as usize]?,
+            next: vec![in alloc; 0; columns as usize]?,
+        };
         Ok(Matcher {
             matching,
             labels,
+            closed,
             rows: 0,
             columns: 0,
         })
@@ -86,7 +93,12 @@ impl Matcher {
     {
         self.rows = costs.rows();
         self.columns = costs.columns();
-        assign(costs, &mut self.matching, &mut self.labels);
+        assign(
+            costs,
+            &mut self.matching,
+            &mut self.labels,
+            &mut self.closed,
+        );
     }
 
     /// The column of a row of the last `solve`.

@@ -2,7 +2,7 @@
 
 ghost use Rattle.std.specs.Prelude.{◌≡◌, ◌<◌, ◌≤◌, ◌+◌, ℕ, length};
 ghost use Rattle.fp_match.specs.Owners.{Agree};
-ghost use Rattle.fp_match.specs.Search.{CanRaise, IsRaised, IsPath, IsAugmented};
+ghost use Rattle.fp_match.specs.Search.{CanRaise, IsRaised, IsPath, IsAugmented, column_of, price_of};
 
 use crate::costs::Costs;
 use crate::labels::Labels;
@@ -16,6 +16,17 @@ pub(crate) struct Matching {
     pub(crate) owner: Vec<u32>,
     /// The price of each column.
     pub(crate) prices: Vec<u64>,
+}
+
+impl Matching {
+    /// The price of the column that the row has.
+    pub(crate) fn price_held(&self, row: u32) -> u64
+        requires row_in { row < length self.now.column_of.items }
+        requires column_in { column_of self.now row < length self.now.prices.items }
+        ensures { result ≡ price_of self.now (column_of self.now row) }
+    {
+        self.prices[self.column_of[row as usize] as usize]
+    }
 }
 
 /// Raises the price of each settled row's column by as much as the row lies nearer than the level, so that the reduced costs on the

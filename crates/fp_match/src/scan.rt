@@ -1,9 +1,10 @@
 //! One step of a search for a shortest augmenting path: the columns that a settled row could have, by their reduced costs.
 
 ghost use Rattle.std.specs.Prelude.{◌≡◌, ◌<◌, ◌≤◌, ◌+◌, ◌*◌, ℕ, length};
-ghost use Rattle.fp_match.specs.Search.{IsTree, IsMatching, Fits, Offered, IsOffer, Scanned, IsTurn, StripeCovered, StripeScanned};
+ghost use Rattle.fp_match.specs.Search.{IsTree, IsMatching, Fits, Offered, IsOffer, Scanned, IsTurn, StripeCovered, StripeScanned, AreRuns};
 
 use crate::choice::UNUSED;
+use crate::closed::Closed;
 use crate::costs::Costs;
 use crate::labels::{FAR, Labels};
 use crate::matching::Matching;
@@ -54,6 +55,7 @@ fn look_at<C: Costs>(
     costs: &C,
     matching: &Matching,
     labels: &mut Labels,
+    closed: &mut Closed,
     row: u32,
     turn: Turn,
     column: u32,
@@ -64,7 +66,9 @@ fn look_at<C: Costs>(
     requires row_in { row < C.row_count costs.now }
     requires turn { IsTurn (C.cost_of costs.now) row matching.now labels.old turn }
     requires column_in { column < C.column_count costs.now }
-    ensures { Offered (C.cost_of costs.now) (C.column_count costs.now) row matching.now labels.old labels.new column }
+    requires runs { AreRuns row matching.now labels.old closed.old }
+    ensures offered { Offered (C.cost_of costs.now) (C.column_count costs.now) row matching.now labels.old labels.new column }
+    ensures runs { AreRuns row matching.now labels.new closed.new }
 {
     let _limits = costs.rows();
     let value = turn.depth + (costs.cost(turn.row, column) + matching.prices[column as usize]);
@@ -72,13 +76,15 @@ fn look_at<C: Costs>(
         return;
     }
     offer(costs, matching, labels, row, column, value - turn.least);
+    closed.close(matching, labels, row, column, turn.depth);
 }
 
-/// Looks at the columns from `from` up to `to`.
+/// Looks at the columns from `from` up to `to` that are not closed.
 fn scan_columns<C: Costs>(
     costs: &C,
     matching: &Matching,
     labels: &mut Labels,
+    closed: &mut Closed,
     row: u32,
     turn: Turn,
     from: u32,
@@ -91,10 +97,15 @@ fn scan_columns<C: Costs>(
     requires turn { IsTurn (C.cost_of costs.now) row matching.now labels.old turn }
     requires order { from ≤ to }
     requires to_in { to ≤ C.column_count costs.now }
-    ensures { Scanned (C.cost_of costs.now) (C.column_count costs.now) row matching.now labels.old labels.new from to }
+    requires runs { AreRuns row matching.now labels.old closed.old }
+    ensures scanned { Scanned (C.cost_of costs.now) (C.column_count costs.now) row matching.now labels.old labels.new from to }
+    ensures runs { AreRuns row matching.now labels.new closed.new }
 {
-    for column in from..to {
-        look_at(costs, matching, labels, row, turn, column);
+    let _limits = costs.rows();
+    let mut column = closed.open_from(matching, labels, row, from, to);
+    while column < to {
+        look_at(costs, matching, labels, closed, row, turn, column);
+        column = closed.open_from(matching, labels, row, column + 1, to);
     }
 }
 
@@ -103,6 +114,7 @@ fn scan_near<C: Costs>(
     costs: &C,
     matching: &Matching,
     labels: &mut Labels,
+    closed: &mut Closed,
     row: u32,
     turn: Turn,
     stripe: u32,
@@ -113,12 +125,16 @@ fn scan_near<C: Costs>(
     requires row_in { row < C.row_count costs.now }
     requires turn { IsTurn (C.cost_of costs.now) row matching.now labels.old turn }
     requires stripe_in { stripe * C.stripe_width costs.now < C.column_count costs.now }
-    ensures { StripeScanned (C.cost_of costs.now) (C.column_count costs.now) (C.stripe_width costs.now) row matching.now labels.old labels.new stripe }
+    requires runs { AreRuns row matching.now labels.old closed.old }
+    ensures scanned { StripeScanned (C.cost_of costs.now) (C.column_count costs.now) (C.stripe_width costs.now) row matching.now labels.old labels.new stripe }
+    ensures runs { AreRuns row matching.now labels.new closed.new }
 {
     let _limits = costs.rows();
     let limit = labels.level + turn.least - turn.depth;
     let near = near_columns(costs, turn.row, stripe, limit);
-    scan_columns(costs, matching, labels, row, turn, near.start, near.end);
+    scan_columns(
+        costs, matching, labels, closed, row, turn, near.start, near.end,
+    );
 }
 
 /// Looks at the columns of a stripe, unless it is the one that was looked at first, or its floor
@@ -127,6 +143,7 @@ fn scan_stripe<C: Costs>(
     costs: &C,
     matching: &Matching,
     labels: &mut Labels,
+    closed: &mut Closed,
     row: u32,
     turn: Turn,
     first: u32,
@@ -139,7 +156,9 @@ fn scan_stripe<C: Costs>(
     requires turn { IsTurn (C.cost_of costs.now) row matching.now labels.old turn }
     requires stripe_in { stripe * C.stripe_width costs.now < C.column_count costs.now }
     requires first { StripeCovered (C.cost_of costs.now) (C.column_count costs.now) (C.stripe_width costs.now) row matching.now labels.old first }
-    ensures { StripeScanned (C.cost_of costs.now) (C.column_count costs.now) (C.stripe_width costs.now) row matching.now labels.old labels.new stripe }
+    requires runs { AreRuns row matching.now labels.old closed.old }
+    ensures scanned { StripeScanned (C.cost_of costs.now) (C.column_count costs.now) (C.stripe_width costs.now) row matching.now labels.old labels.new stripe }
+    ensures runs { AreRuns row matching.now labels.new closed.new }
 {
     let _limits = costs.rows();
     let _width = costs.stripe();
@@ -149,7 +168,7 @@ fn scan_stripe<C: Costs>(
     if labels.level + turn.least <= turn.depth + costs.floor(turn.row, stripe) {
         return;
     }
-    scan_near(costs, matching, labels, row, turn, stripe);
+    scan_near(costs, matching, labels, closed, row, turn, stripe);
 }
 
 /// The turn of the row that was settled last.
@@ -184,6 +203,7 @@ fn scan_stripes<C: Costs>(
     costs: &C,
     matching: &Matching,
     labels: &mut Labels,
+    closed: &mut Closed,
     row: u32,
     turn: Turn,
     first: u32,
@@ -195,29 +215,39 @@ fn scan_stripes<C: Costs>(
     requires some { 0 < C.column_count costs.now }
     requires turn { IsTurn (C.cost_of costs.now) row matching.now labels.old turn }
     requires first { StripeCovered (C.cost_of costs.now) (C.column_count costs.now) (C.stripe_width costs.now) row matching.now labels.old first }
-    ensures { Scanned (C.cost_of costs.now) (C.column_count costs.now) row matching.now labels.old labels.new 0 (C.column_count costs.now) }
+    requires runs { AreRuns row matching.now labels.old closed.old }
+    ensures scanned { Scanned (C.cost_of costs.now) (C.column_count costs.now) row matching.now labels.old labels.new 0 (C.column_count costs.now) }
+    ensures runs { AreRuns row matching.now labels.new closed.new }
 {
     let _limits = costs.rows();
     let limit = labels.level + turn.least - turn.depth;
     let near = near_stripes(costs, turn.row, limit);
     for stripe in near.start..near.end {
-        scan_stripe(costs, matching, labels, row, turn, first, stripe);
+        scan_stripe(costs, matching, labels, closed, row, turn, first, stripe);
     }
 }
 
 /// Looks at all columns for the row that was settled last: those of one stripe first, and then those of each stripe that may hold a
 /// column within the level that is then known.
-pub(crate) fn scan_row<C: Costs>(costs: &C, matching: &Matching, labels: &mut Labels, row: u32)
+pub(crate) fn scan_row<C: Costs>(
+    costs: &C,
+    matching: &Matching,
+    labels: &mut Labels,
+    closed: &mut Closed,
+    row: u32,
+)
     requires tree { IsTree (C.cost_of costs.now) (C.column_count costs.now) row matching.now labels.old }
     requires matched { IsMatching (C.cost_of costs.now) (C.column_count costs.now) row matching.now }
     requires fits { Fits (C.column_count costs.now) row matching.now }
     requires row_in { row < C.row_count costs.now }
     requires some { 0 < C.column_count costs.now }
-    ensures { Scanned (C.cost_of costs.now) (C.column_count costs.now) row matching.now labels.old labels.new 0 (C.column_count costs.now) }
+    requires runs { AreRuns row matching.now labels.old closed.old }
+    ensures scanned { Scanned (C.cost_of costs.now) (C.column_count costs.now) row matching.now labels.old labels.new 0 (C.column_count costs.now) }
+    ensures runs { AreRuns row matching.now labels.new closed.new }
 {
     let _limits = costs.rows();
     let turn = turn_of(costs, matching, labels, row);
     let first = costs.first_stripe(turn.row);
-    scan_near(costs, matching, labels, row, turn, first);
-    scan_stripes(costs, matching, labels, row, turn, first);
+    scan_near(costs, matching, labels, closed, row, turn, first);
+    scan_stripes(costs, matching, labels, closed, row, turn, first);
 }

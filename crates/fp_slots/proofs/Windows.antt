@@ -1,5 +1,5 @@
 -- Where in x a terminal may make a net shorter than a limit.
-use Rattle.std.proofs.Common.{◌≡◌, ℕ, ◌+◌, ◌<◌, ◌≤◌, ◌^◌, ℤ, pos, ◌+ℤ◌, ◌-ℤ◌, ◌≤ℤ◌, ◌<ℤ◌, ◌↔◌, unsigned_abs, ap, ◌∙◌, arith}
+use Rattle.std.proofs.Common.{◌≡◌, ℕ, ◌+◌, ◌<◌, ◌≤◌, ◌^◌, ℤ, pos, ◌+ℤ◌, ◌-ℤ◌, ◌≤ℤ◌, ◌<ℤ◌, ◌⊎◌, inl, inr, unsigned_abs, ap, ◌∙◌, arith}
 use Rattle.std.specs.Int.{int_min, int_max}
 use Rattle.std.proofs.lemmas.Int.{ints, clamps, int_max_is, int_min_is}
 use Rattle.fp_score.specs.declared.reach.Reach.{Reach}
@@ -63,23 +63,42 @@ adds_less : (l r fixed : ℤ) (x limit slack left right : ℕ) → l ≤ℤ r �
     → left < x + slack → x < right + slack → (fixed +ℤ (span l r (pos x) -ℤ (r -ℤ l))) <ℤ pos limit
 adds_less l r fixed x limit slack left right wide is some left_is right_is after before = omega (arith, ints, clamps)
 
+-- left or right of both bounding boxes a terminal adds how far it is from both
+both_before : (l r m s x : ℤ) (slack : ℕ) → ((x +ℤ x) +ℤ pos slack) ≤ℤ (l +ℤ m) → (((r -ℤ l) +ℤ (s -ℤ m)) +ℤ pos slack) ≤ℤ (span l r x +ℤ span m s x)
+both_before l r m s x slack far = omega (arith, ints, far, (wide l r x).to_right, (wide m s x).to_right)
+
+both_after : (l r m s x : ℤ) (slack : ℕ) → ((r +ℤ s) +ℤ pos slack) ≤ℤ (x +ℤ x) → (((r -ℤ l) +ℤ (s -ℤ m)) +ℤ pos slack) ≤ℤ (span l r x +ℤ span m s x)
+both_after l r m s x slack far = omega (arith, ints, far, (wide l r x).from_left, (wide m s x).from_left)
+
+-- where a window may begin and end, by the slack and the ends of both bounding boxes
+pub record AreEnds (slack left right lefts rights start end : ℕ) : Type 0 where
+  pub before : (x : ℕ) → x < start → (x + slack ≤ left) ⊎ (x + x + slack ≤ lefts)
+  pub past : (x : ℕ) → start ≤ x → left < x + slack
+  pub after : (x : ℕ) → x ≤ 2 ^ 31 → end ≤ x → (right + slack ≤ x) ⊎ (rights + slack ≤ x + x)
+  pub within : (x : ℕ) → x < end → x < right + slack
+
 -- the x that are less than the slack from both bounding boxes are a window
-pub is_window : (it : CutNet) (y : ℤ) (limit fixed slack left right start end : ℕ) → IsNearNet it → pos fixed ≡ fixed_length it y → limit ≡ fixed + slack → 0 < slack
+pub is_window : (it : CutNet) (y : ℤ) (limit fixed slack left right lefts rights start end : ℕ) → IsNearNet it → pos fixed ≡ fixed_length it y
+    → limit ≡ fixed + slack → 0 < slack
     → pos left ≡ int_max it.top.left it.bottom.left → pos right ≡ int_min it.top.right it.bottom.right
-    → ((x : ℕ) → (x < start) ↔ (x + slack ≤ left)) → ((x : ℕ) → x ≤ 2 ^ 31 → end ≤ x → right + slack ≤ x) → ((x : ℕ) → x < end → x < right + slack)
-    → IsWindow it y limit start end
-is_window it y limit fixed slack left right start end near is all some left_is right_is starts ends within = record {
-  before = λ x less. reached widths (width_with it (pos x)) (height_with it y) limit fixed slack is enough
-      (before_adds it.top.left it.top.right it.bottom.left it.bottom.right (pos x) slack (to_left x (int_max it.top.left it.bottom.left) left_is ((starts x).0 less)));
-  after = λ x most from. reached widths (width_with it (pos x)) (height_with it y) limit fixed slack is enough
-      (after_adds it.top.left it.top.right it.bottom.left it.bottom.right (pos x) slack (to_right x (int_min it.top.right it.bottom.right) right_is (ends x most from)));
+    → pos lefts ≡ it.top.left +ℤ it.bottom.left → pos rights ≡ it.top.right +ℤ it.bottom.right
+    → AreEnds slack left right lefts rights start end → IsWindow it y limit start end
+is_window it y limit fixed slack left right lefts rights start end near is all some left_is right_is lefts_are rights_are ends = record {
+  before = λ x less. reached widths (width_with it (pos x)) (height_with it y) limit fixed slack is enough (elim (ends.before x less) [
+    | inl one ↦ before_adds it.top.left it.top.right it.bottom.left it.bottom.right (pos x) slack (to_left x (int_max it.top.left it.bottom.left) left_is one)
+    | inr both ↦ both_before it.top.left it.top.right it.bottom.left it.bottom.right (pos x) slack (to_lefts x (it.top.left +ℤ it.bottom.left) lefts_are both)
+  ]);
+  after = λ x most from. reached widths (width_with it (pos x)) (height_with it y) limit fixed slack is enough (elim (ends.after x most from) [
+    | inl one ↦ after_adds it.top.left it.top.right it.bottom.left it.bottom.right (pos x) slack (to_right x (int_min it.top.right it.bottom.right) right_is one)
+    | inr both ↦ both_after it.top.left it.top.right it.bottom.left it.bottom.right (pos x) slack (to_rights x (it.top.right +ℤ it.bottom.right) rights_are both)
+  ]);
   inside = λ x from to.
-      let after : left < x + slack = past x from in
+      let after : left < x + slack = ends.past x from in
       record {
         top = adds_less it.top.left it.top.right (fixed_length it y) x limit slack left right near.top.wide limit_is some
-            (omega (arith, ints, int_max_is it.top.left it.bottom.left, left_is)) (omega (arith, ints, int_min_is it.top.right it.bottom.right, right_is)) after (within x to);
+            (omega (arith, ints, int_max_is it.top.left it.bottom.left, left_is)) (omega (arith, ints, int_min_is it.top.right it.bottom.right, right_is)) after (ends.within x to);
         bottom = adds_less it.bottom.left it.bottom.right (fixed_length it y) x limit slack left right near.bottom.wide limit_is some
-            (omega (arith, ints, int_max_is it.top.left it.bottom.left, left_is)) (omega (arith, ints, int_min_is it.top.right it.bottom.right, right_is)) after (within x to);
+            (omega (arith, ints, int_max_is it.top.left it.bottom.left, left_is)) (omega (arith, ints, int_min_is it.top.right it.bottom.right, right_is)) after (ends.within x to);
       };
 }
   where
@@ -92,11 +111,11 @@ is_window it y limit fixed slack left right start end near is all some left_is r
     limit_is : pos limit ≡ fixed_length it y +ℤ pos slack
     limit_is = ap pos all ∙ ap (λ z. z +ℤ pos slack) is
 
-    past : (x : ℕ) → start ≤ x → left < x + slack
-    past x from = not_less (x + slack) left (λ less. absurd (omega (arith, from, (starts x).1 less)))
-      where
-        not_less : (a b : ℕ) → ¬ (a ≤ b) → b < a
-        not_less a b no_less = omega (arith, no_less)
+    to_lefts : (x : ℕ) (z : ℤ) → pos lefts ≡ z → x + x + slack ≤ lefts → ((pos x +ℤ pos x) +ℤ pos slack) ≤ℤ z
+    to_lefts x z is less = omega (arith, ints)
+
+    to_rights : (x : ℕ) (z : ℤ) → pos rights ≡ z → rights + slack ≤ x + x → (z +ℤ pos slack) ≤ℤ (pos x +ℤ pos x)
+    to_rights x z is less = omega (arith, ints)
 
     to_left : (x : ℕ) (z : ℤ) → pos left ≡ z → x + slack ≤ left → (pos x +ℤ pos slack) ≤ℤ z
     to_left x z is less = omega (arith, ints)
@@ -113,3 +132,10 @@ pub right_found : (it : CutNet) (z : ℤ) (right : ℕ) → IsNearNet it → z �
     → pos right ≡ int_min it.top.right it.bottom.right
 right_found it z right near is right_is =
     ap pos right_is ∙ pos_abs z (omega (arith, ints, clamps, is, near.top.left, near.top.wide, near.bottom.left, near.bottom.wide)) ∙ is
+
+-- the sum of two ends, each a number from 0 on
+pub ends_found : (a b : ℤ) (first second : ℕ) → pos 0 ≤ℤ a → pos 0 ≤ℤ b → first ≡ unsigned_abs a → second ≡ unsigned_abs b → pos (first + second) ≡ a +ℤ b
+ends_found a b first second a_least b_least first_is second_is =
+    let one : pos first ≡ a = ap pos first_is ∙ pos_abs a a_least in
+    let two : pos second ≡ b = ap pos second_is ∙ pos_abs b b_least in
+    omega (arith, ints, one, two)

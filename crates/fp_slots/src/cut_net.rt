@@ -76,8 +76,8 @@ impl CutNet {
         self.top.stretched(top).half_perimeter() + self.bottom.stretched(bottom).half_perimeter()
     }
 
-    /// Where in x a terminal at that y may make the net shorter than the limit: where what it adds on each die alone is less than what the
-    /// fixed length leaves. Nowhere, if that leaves nothing.
+    /// Where in x a terminal at that y may make the net shorter than the limit: where what it adds on each die alone, and on both while it
+    /// stands on one side of both bounding boxes, is less than what the fixed length leaves. Nowhere, if that leaves nothing.
     pub(crate) fn window(self, y: i64, limit: u64) -> Range<u64>
         requires net { IsNearNet self }
         requires least { pos 0 ≤ℤ y }
@@ -90,7 +90,13 @@ impl CutNet {
         }
         let left = self.top.left.max(self.bottom.left).unsigned_abs();
         let right = self.top.right.min(self.bottom.right).unsigned_abs();
-        (left + 1).saturating_sub(slack)..right.saturating_add(slack)
+        let lefts = self.top.left.unsigned_abs() + self.bottom.left.unsigned_abs();
+        let rights = self.top.right.unsigned_abs() + self.bottom.right.unsigned_abs();
+        let start = (left + 1).saturating_sub(slack);
+        let end = right.saturating_add(slack);
+        let start_of_both = (lefts + 2).saturating_sub(slack) / 2;
+        let end_of_both = rights.saturating_add(slack).div_ceil(2);
+        start.max(start_of_both)..end.min(end_of_both)
     }
 }
 

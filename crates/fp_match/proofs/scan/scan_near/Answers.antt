@@ -10,7 +10,7 @@ overflow_add-limit g c =
       least_bound _ _ _ _ _ _ _ c.rows-limits.ensures.limits c.requires.matched c.requires.tree c.requires.turn _ c.requires.stripe_in c.requires.row_in,
     )
 
-pub returns : goal.returns
-returns g c =
+pub returns-clause-scanned : goal.returns-clause-scanned
+returns-clause-scanned g c =
     near_scanned _ _ _ _ _ _ _ _ _ _ _ _ c.requires.turn c.near_columns-near.ensures.near
-    (omega (arith, c.requires.turn.depth_is, c.requires.tree.level_after)) c.scan_columns.ensures
+    (omega (arith, c.requires.turn.depth_is, c.requires.tree.level_after)) c.scan_columns.ensures.scanned

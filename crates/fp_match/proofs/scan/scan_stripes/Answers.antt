@@ -12,18 +12,19 @@ overflow_add-limit g c =
     )
 
 pub loop-stripe-init : goal.loop-stripe-init
-loop-stripe-init g c = (scanned_none _ _ _ _ _ _ c.requires.tree, c.requires.first)
+loop-stripe-init g c = (scanned_none _ _ _ _ _ _ c.requires.tree, c.requires.first, c.requires.runs)
 
 pub scan_stripe-requires-clause-turn : goal.scan_stripe-requires-clause-turn
 scan_stripe-requires-clause-turn g c = turn_grown _ _ _ _ _ _ c.loop-stripe.invariant.0.grown c.requires.turn
 
 pub loop-stripe-preserved : goal.loop-stripe-preserved
 loop-stripe-preserved g c = (
-  swept_step _ _ _ _ _ _ _ _ _ _ c.loop-stripe.invariant.0 (c.near_stripes-near.ensures.inside _ c.loop-stripe-test.true) c.scan_stripe.ensures,
-  stripe_grown _ _ _ _ _ _ _ _ c.scan_stripe.ensures.grown c.loop-stripe.invariant.1,
+  swept_step _ _ _ _ _ _ _ _ _ _ c.loop-stripe.invariant.0 (c.near_stripes-near.ensures.inside _ c.loop-stripe-test.true) c.scan_stripe.ensures.scanned,
+  stripe_grown _ _ _ _ _ _ _ _ c.scan_stripe.ensures.scanned.grown c.loop-stripe.invariant.1,
+  c.scan_stripe.ensures.runs,
 )
 
-pub returns : goal.returns
-returns g c =
+pub returns-clause-scanned : goal.returns-clause-scanned
+returns-clause-scanned g c =
     swept_end _ _ _ _ _ _ _ _ _ _ _ _ c.requires.turn c.near_stripes-near.ensures.near
     (omega (arith, c.requires.turn.depth_is, c.requires.tree.level_after)) (omega arith) c.loop-stripe.invariant.0
