@@ -2,7 +2,6 @@
 
 ghost use Rattle.std.specs.Prelude.{◌≡◌, ◌↔◌, IfOk, IsTrue};
 ghost use Rattle.fp_place.specs.Legal.{IsLegal};
-ghost use Rattle.fp_place.specs.Drawing.{Drawing};
 ghost use Rattle.fp_place.specs.OnSlots.{AreOnCuts};
 ghost use Rattle.fp_place.specs.Placed.{place_of, places_of, IsPlacementOf};
 ghost use Rattle.fp_place.specs.Places.{dies_of};
@@ -22,7 +21,7 @@ pub fn draws(
     placement: &Placement,
 ) -> Result<bool, NoMemory>
     requires of_problem { IsPlacementOf problem.now placement.now }
-    requires legal { (drawing : Drawing) → Draws problem.now drawing placement.now → IsLegal problem.now drawing }
+    requires legal { Draws problem.now drawn.now placement.now → IsLegal problem.now drawn.now }
     requires on_cuts { AreOnCuts problem.now (dies_of (places_of placement.now)) placement.now.terminals }
     ensures { IfOk result (λ b. IsTrue b ↔ Draws problem.now drawn.now placement.now) }
 {

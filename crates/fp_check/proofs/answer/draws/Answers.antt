@@ -14,4 +14,4 @@ returns-in-Legal c =
 pub returns-in-Breaks : goal.returns-in-Breaks
 returns-in-Breaks c =
     let judges = subst (Judges c.args.problem.now c.args.drawn.now) c.in-Breaks.is c.in_ok-other.ensures.judges in
-    (never _, λ drawn. absurd (not_both c.args.problem.now c.args.drawn.now c.in-Breaks.rule c.in-Breaks.subject (c.requires.legal c.args.drawn.now drawn) judges))
+    (never _, λ drawn. absurd (not_both c.args.problem.now c.args.drawn.now c.in-Breaks.rule c.in-Breaks.subject (c.requires.legal drawn) judges))
