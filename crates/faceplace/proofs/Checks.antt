@@ -9,7 +9,8 @@ use Rattle.fp_cert.specs.declared.finding.Finding.TheVariants.{Yes, No}
 use Rattle.fp_cert.specs.OfProblem.{IsRunOf}
 use Rattle.fp_cert.specs.Shown.{ShownRun}
 use Rattle.fp_check.specs.Conditions.{Holds, CertOk, FirstFalse, Finds}
-use Rattle.fp_check.specs.SoundLaws.{AreNetsOf, sound}
+use Rattle.fp_check.specs.Answers.{AreNetsOf}
+use Rattle.fp_check.specs.SoundLaws.{sound}
 use Rattle.faceplace.specs.Checking.{finding_status}
 use Rattle.faceplace.specs.Due.{CheckDue}
 use Rattle.faceplace.specs.Outcome.{Outcome, told}
@@ -23,7 +24,7 @@ IsRunFor p run = (grid : Slots) → IsGrid p.plan.frame p.plan.terminal grid →
 -- what is due for a finding
 pub finding_due : (p : Netlist) (drawing : Drawing) (run : ShownRun) (finding : Finding) → IsSound p → IsRunFor p run → AreNetsOf p drawing → Finds p drawing run finding
     → CheckDue p drawing run (told (finding_status finding) (finding_report finding))
-finding_due p drawing run Yes is of nets ok = inl (record { ok = ok; shows = sound p drawing run is of nets ok; is = refl })
+finding_due p drawing run Yes is of nets ok = inl (record { ok = ok; shows = sound p drawing run is nets of ok; is = refl })
 finding_due p drawing run (No number) is of nets first = inr (record { number = number; first = first; is = refl })
 
 -- where a condition is false, not all hold

@@ -5,7 +5,7 @@ use Rattle.fp_tech.specs.Slots.{Slots, slot_count, IsGrid}
 use Rattle.fp_netlist.specs.Netlist.{Netlist}
 use Rattle.fp_place.specs.Drawing.{Drawing}
 use Rattle.fp_cert.specs.Shown.{ShownRun}
-use Rattle.fp_check.specs.SoundLaws.{AreNetsOf}
+use Rattle.fp_check.specs.Answers.{AreNetsOf}
 use Rattle.faceplace.specs.Checking.{finding_status, TellsFinding}
 use Rattle.faceplace.specs.Due.{CheckDue, IsDue}
 use Rattle.faceplace.specs.Outcome.{Outcome, told}

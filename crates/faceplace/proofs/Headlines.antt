@@ -28,7 +28,7 @@ use Rattle.fp_cert.specs.Standing.{placed_shown}
 use Rattle.fp_cert.specs.Trials.{answer_of}
 use Rattle.fp_check.specs.CompleteLaws.{complete}
 use Rattle.fp_check.specs.Conditions.{CertOk}
-use Rattle.fp_check.specs.SoundLaws.{AreNetsOf, sound}
+use Rattle.fp_check.specs.SoundLaws.{sound}
 use Rattle.faceplace.specs.Report.{Cause, IsLong}
 use Rattle.faceplace.specs.Request.{Asked, Place}
 use Rattle.faceplace.specs.Outcome.{Outcome, with_writings, told, refusal}
@@ -73,8 +73,8 @@ shown p output cert limit before grid run seed_score is names apart placed = rec
       (omega (arith, cert_short p (slot_count grid) is few run placed.run_of_problem))
       (cert_is_read p (slot_count grid) is (cert_text run) run (says_run p (slot_count grid) is few run placed.run_of_problem));
   ok = ok;
-  shows = sound p (drawn_of answer) run is (λ other is_grid. subst (λ (g : Slots). IsRunOf p (slot_count g) run) (grid_once p.plan.frame p.plan.terminal grid other placed.grid_is is_grid) placed.run_of_problem)
-      (nets_read p (out_text p (drawn_of answer)) (drawn_of answer) reads) ok;
+  shows = sound p (drawn_of answer) run is (nets_read p (out_text p (drawn_of answer)) (drawn_of answer) reads)
+      (λ other is_grid. subst (λ (g : Slots). IsRunOf p (slot_count g) run) (grid_once p.plan.frame p.plan.terminal grid other placed.grid_is is_grid) placed.run_of_problem) ok;
   chain = placed.chain;
   seed_score = seed_score;
   seed = placed.seed;
@@ -94,7 +94,7 @@ shown p output cert limit before grid run seed_score is names apart placed = rec
     reads = reads_back p answer is placed.of_problem names.cells names.nets
 
     ok : CertOk p (drawn_of answer) run
-    ok = complete p grid limit run is placed.grid_is placed.run_of_problem placed.chain placed.certified
+    ok = complete p grid limit run is placed.grid_is placed.chain placed.certified
 
 -- a done placement, of the outcome that was due
 from_due : (input output cert : List ℕ) (limit : ℕ) (before : Files) (outcome : Outcome) (old new : Outside) → output ≢ cert

@@ -9,7 +9,7 @@ use Rattle.fp_netlist.specs.Netlist.{Netlist}
 use Rattle.fp_place.specs.declared.drawn.DrawnTerminal.{DrawnTerminal}
 use Rattle.fp_place.specs.Drawing.{Drawing}
 use Rattle.fp_out.specs.OutGrammar.{IsTerminal, ReadsOut}
-use Rattle.fp_check.specs.SoundLaws.{AreNetsOf}
+use Rattle.fp_check.specs.Answers.{AreNetsOf}
 
 lines_name : (p : Netlist) (before lines : List DrawnTerminal) (words rest : List Word) → Each (λ before. IsTerminal p) before lines words rest
     → All (λ (line : DrawnTerminal). line.net.0 < length p.nets) lines

@@ -3,7 +3,7 @@
 ghost use Rattle.std.specs.Prelude.{◌≡◌, ◌≤◌, Some};
 ghost use Rattle.fp_tech.specs.Slots.{Slots, slot_count, IsGrid};
 ghost use Rattle.fp_cert.specs.OfProblem.{IsRunOf};
-ghost use Rattle.fp_check.specs.SoundLaws.{AreNetsOf};
+ghost use Rattle.fp_check.specs.Answers.{AreNetsOf};
 ghost use Rattle.faceplace.specs.Request.{Check};
 ghost use Rattle.faceplace.specs.Checking.{finding_status, TellsFinding};
 ghost use Rattle.faceplace.specs.Report.{finding_report};

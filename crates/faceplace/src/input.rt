@@ -5,7 +5,7 @@ ghost use Rattle.fp_base.specs.Faults.{Rose};
 ghost use Rattle.fp_netlist.specs.Netlist.{IsSound};
 ghost use Rattle.fp_tech.specs.Slots.{Slots, slot_count, IsGrid};
 ghost use Rattle.fp_cert.specs.OfProblem.{IsRunOf};
-ghost use Rattle.fp_check.specs.SoundLaws.{AreNetsOf};
+ghost use Rattle.fp_check.specs.Answers.{AreNetsOf};
 ghost use Rattle.faceplace.specs.Sources.{problem_in, drawing_in, cert_in};
 ghost use Rattle.faceplace.specs.Input.{bytes_in, stop_of, GivesRead};
 
