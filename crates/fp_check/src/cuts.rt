@@ -196,7 +196,8 @@ fn has_prices_of(
     shown
 }
 
-/// Whether the prices of lines, one for each row of a table, show that the lines' slots are the best.
+/// Whether the prices of lines, one for each row of a table, show that the lines' slots are the best. No two lines have one slot, so their
+/// slots are a choice, and nothing but memory can be wanting.
 fn are_best(alloc: Global, costs: &SlotCosts, cuts: &[CutShown]) -> Result<bool, NoMemory>
     requires many { length cuts.now ≡ length costs.now.rows }
     requires slots { All (λ cut. cut.slot.0 < slot_count costs.now.grid) cuts.now }
