@@ -1,0 +1,4 @@
+mod Pairs
+mod Pickings
+mod Startings
+mod Tryings
