@@ -1,12 +1,15 @@
 -- The seed as the checker holds it, and a placement that stands as it does.
-use Rattle.std.specs.Prelude.{◌≡◌, ℕ, ◌<◌, ◌≤◌, List, length, map}
+use Rattle.std.specs.Prelude.{◌≡◌, ℕ, ◌<◌, ◌≤◌, List, length, map, slice_get, Some, ◌+ℤ◌}
+use Rattle.fp_base.specs.declared.ids.CellId.{CellId}
 use Rattle.fp_base.specs.declared.ids.Die.{Die}
 use Rattle.fp_base.specs.declared.ids.Point.{Point}
+use Rattle.fp_tech.specs.declared.dies.Segment.{Segment}
+use Rattle.fp_tech.specs.Plan.{segments}
 use Rattle.fp_tech.specs.Slots.{Slots, slot_count}
 use Rattle.fp_netlist.specs.Netlist.{Netlist}
 use Rattle.fp_place.specs.Cut.{cut}
 use Rattle.fp_place.specs.Places.{dies_of}
-use Rattle.fp_place.specs.Placed.{Placed, spot_at, places_of, IsInOrder, IsPlacementOf}
+use Rattle.fp_place.specs.Placed.{Placed, spot_at, places_of, lanes_of, StandBetween, IsInOrder, IsPlacementOf}
 use Rattle.fp_place.specs.Settled.{KeepRules}
 use Rattle.fp_score.specs.FirstFit.{Seat, IsSeed}
 use Rattle.fp_score.specs.Score.{corner}
@@ -33,3 +36,9 @@ pub record StartsLike (p : Netlist) (seed placed : Placed) (targets : List Point
   pub alike : (cell : ℕ) → cell < length p.cells → StandAlike seed placed cell
   pub in_order : IsInOrder p placed
   pub targets_are : targets ≡ map corner (places_of placed)
+
+-- on each segment of a die the cells stand in their order without overlap, within the segment
+abbrev pub IsDieInOrder : Netlist → Placed → Die → Type 0
+IsDieInOrder p placed die = (number : ℕ) (segment : Segment) (lane : List CellId)
+    → slice_get (segments p.plan die) number ≡ Some segment → slice_get (lanes_of placed die) number ≡ Some lane
+    → StandBetween p die (places_of placed) segment.start (segment.start +ℤ segment.length) lane

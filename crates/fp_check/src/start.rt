@@ -1,14 +1,17 @@
 //! Condition 4: the first trial has the seed's cells where they are, in order of x, each with its own place as target.
 
-ghost use Rattle.std.specs.Prelude.{◌≡◌, ◌↔◌, ◌<◌, ◌+ℤ◌, ℕ, IsTrue, length, map, slice_get, Some};
-ghost use Rattle.fp_place.specs.Placed.{lanes_of, places_of, StandBetween, DoAgree, IsInOrder, IsPlacementOf};
+ghost use Rattle.std.specs.Prelude.{◌≡◌, ◌↔◌, ◌<◌, ◌+ℤ◌, ℕ, All, IsTrue, length, map};
+ghost use Rattle.fp_place.specs.Drawing.{IsCoordinate};
+ghost use Rattle.fp_place.specs.Places.{place_at};
+ghost use Rattle.fp_place.specs.Placed.{place_of, places_of, StandBetween, IsInOrder, IsPlacementOf};
+ghost use Rattle.fp_place.specs.PlacedLaws.{LiesInRange};
 ghost use Rattle.fp_score.specs.Score.{corner};
-ghost use Rattle.fp_check.specs.Seeds.{StandAlike, StartsLike};
+ghost use Rattle.fp_check.specs.Seeds.{StandAlike, StartsLike, IsDieInOrder};
 
 use crate::views::Layout;
 use fp_base::{CellId, Die, Point};
 use fp_netlist::Problem;
-use fp_place::Placement;
+use fp_place::{Placement, Spot};
 use fp_tech::Segment;
 
 /// Whether a layout has the cells of a seed's placement where they are, in order of x, each with its own place as target.
@@ -31,13 +34,18 @@ fn stand_alike(problem: &Problem, seed: &Placement, placement: &Placement) -> bo
 {
     for number in 0..problem.cells() {
         let cell = CellId(number);
-        let from = seed.spot(cell);
-        let to = placement.spot(cell);
-        if to.die != from.die || to.segment != from.segment || to.x != from.x {
+        if !is_alike(seed.spot(cell), placement.spot(cell)) {
             return false;
         }
     }
     true
+}
+
+/// Whether two spots are on one segment, at one x.
+fn is_alike(from: Spot, to: Spot) -> bool
+    ensures { IsTrue result ↔ ((to.die ≡ from.die) × (to.segment ≡ from.segment) × (to.x ≡ from.x)) }
+{
+    to.die == from.die && to.segment == from.segment && to.x == from.x
 }
 
 /// Whether the cells of each segment stand in their order without overlap, within the segment.
@@ -54,6 +62,7 @@ fn is_die_in_order(problem: &Problem, placement: &Placement, die: Die) -> bool
     ensures { IsTrue result ↔ IsDieInOrder problem.now placement.now die }
 {
     let segments = problem.dies().segments_of(die);
+    let _cells = problem.cells();
     for number in 0..segments.len() {
         let lane = placement.lane(die, number as u32);
         if !stand_between(problem, placement, die, &segments[number], lane) {
@@ -78,13 +87,23 @@ fn stand_between(
 {
     let mut from = segment.start;
     for cell in lane {
-        let x = placement.spot(*cell).x;
+        let x = x_of(problem, placement, *cell);
         if x < from {
             return false;
         }
         from = x + problem.width(*cell, die);
     }
     from <= segment.start + segment.length
+}
+
+/// The x of a cell.
+fn x_of(problem: &Problem, placement: &Placement, cell: CellId) -> i64
+    requires placement { IsPlacementOf problem.now placement.now }
+    requires within { cell.0 < length problem.now.cells }
+    ensures x { result ≡ (place_at (places_of placement.now) cell.0).x }
+    ensures range { IsCoordinate result }
+{
+    placement.spot(cell).x
 }
 
 /// Whether each cell's target is its own place.
@@ -95,10 +114,16 @@ fn aim_at_places(problem: &Problem, placement: &Placement, targets: &[Point]) ->
 {
     for number in 0..problem.cells() {
         let spot = placement.spot(CellId(number));
-        let target = targets[number as usize];
-        if target.x != spot.x || target.y != spot.y {
+        if !is_corner(targets[number as usize], spot) {
             return false;
         }
     }
     true
+}
+
+/// Whether a point is where a spot is.
+fn is_corner(point: Point, spot: Spot) -> bool
+    ensures { IsTrue result ↔ (point ≡ corner (place_of spot)) }
+{
+    point.x == spot.x && point.y == spot.y
 }
