@@ -3,10 +3,10 @@ pub mod Answers
 pub mod CompleteLaws
 pub mod Conditions
 pub mod ConditionsLaws
+pub mod CutLines
 pub mod CutsLaws
 pub mod DrawnLegalLaws
 pub mod DrawsLaws
-pub mod CutLines
 pub mod Finding
 pub mod Marks
 pub mod RoomLaws
@@ -17,5 +17,6 @@ pub mod ShownLaws
 pub mod SlotsShownLaws
 pub mod Sound
 pub mod SoundLaws
+pub mod Starting
 pub mod StepsLaws
 pub mod Views

@@ -1,12 +1,15 @@
 //! The check: the sixteen conditions in their order, up to the first that is false.
 
-ghost use Rattle.std.specs.Prelude.{◌≡◌, ◌↔◌, ◌≤◌, IfOk, IsTrue};
+ghost use Rattle.std.specs.Prelude.{◌≡◌, ◌↔◌, ◌<◌, ◌≤◌, IfOk, IfSome, IsTrue, Some, length, slice_get};
 ghost use Rattle.fp_tech.specs.Slots.{Slots, slot_count, IsGrid};
+ghost use Rattle.fp_place.specs.Placed.{IsPlacementOf};
 ghost use Rattle.fp_cert.specs.OfProblem.{IsRunOf};
-ghost use Rattle.fp_check.specs.Conditions.{Condition, number_of, Holds, CertOk, Finds};
-ghost use Rattle.fp_check.specs.Finding.{HoldBelow, FindsAt};
+ghost use Rattle.fp_check.specs.Answers.{AreNetsOf};
+ghost use Rattle.fp_check.specs.Conditions.{AreCutsListed, IsScoreOf, OfPlaced, CertOk, Finds};
+ghost use Rattle.fp_check.specs.Finding.{HoldBelow, IsTold, FindsAt};
 ghost use Rattle.fp_check.specs.Seeds.{IsSeedPlaced};
 ghost use Rattle.fp_check.specs.Sound.{Shows};
+ghost use Rattle.fp_check.specs.Starting.{IsLayoutFor, StartsView, IsAnswerFor, DrawsView};
 ghost use Rattle.fp_check.specs.Views.{AreViews};
 
 use crate::answer::draws;
@@ -37,7 +40,8 @@ pub fn check(
     drawn: &Drawn,
     run: &Run,
 ) -> Result<Finding, NoMemory>
-    requires { (grid : Slots) → IsGrid problem.now.plan.frame problem.now.plan.terminal grid → IsRunOf problem.now (slot_count grid) run.now }
+    requires run { (grid : Slots) → IsGrid problem.now.plan.frame problem.now.plan.terminal grid → IsRunOf problem.now (slot_count grid) run.now }
+    requires nets { AreNetsOf problem.now drawn.now }
     ensures finds { IfOk result (Finds problem.now drawn.now run.now) }
     // What the conditions show, of any drawing and run of a problem: the drawing is legal and is the answer of the problem's run of trials.
     ensures sound { CertOk problem.now drawn.now run.now → Shows problem.now drawn.now run.now }
@@ -65,6 +69,7 @@ fn check_run(
 ) -> Result<Finding, NoMemory>
     requires grid { IsGrid problem.now.plan.frame problem.now.plan.terminal grid.now }
     requires of_problem { IsRunOf problem.now (slot_count grid.now) run.now }
+    requires nets { AreNetsOf problem.now drawn.now }
     requires seed { IsSeedPlaced problem.now grid.now seed.now }
     ensures { IfOk result (FindsAt problem.now grid.now drawn.now run.now) }
 {
@@ -92,6 +97,7 @@ fn check_views(
 ) -> Result<Finding, NoMemory>
     requires grid { IsGrid problem.now.plan.frame problem.now.plan.terminal grid.now }
     requires of_problem { IsRunOf problem.now (slot_count grid.now) run.now }
+    requires nets { AreNetsOf problem.now drawn.now }
     requires seed { IsSeedPlaced problem.now grid.now seed.now }
     requires views { AreViews problem.now grid.now run.now views.now }
     requires below { HoldBelow problem.now grid.now drawn.now run.now 4 }
@@ -120,13 +126,15 @@ fn holds(
     requires to { number ≤ 16 }
     requires grid { IsGrid problem.now.plan.frame problem.now.plan.terminal grid.now }
     requires of_problem { IsRunOf problem.now (slot_count grid.now) run.now }
+    requires nets { AreNetsOf problem.now drawn.now }
     requires seed { IsSeedPlaced problem.now grid.now seed.now }
     requires views { AreViews problem.now grid.now run.now views.now }
     requires below { HoldBelow problem.now grid.now drawn.now run.now number }
-    ensures { IfOk result (λ b. (condition : Condition) → number_of condition ≡ number → IsTrue b ↔ Holds problem.now grid.now drawn.now run.now condition) }
+    ensures { IfOk result (IsTold problem.now grid.now drawn.now run.now number) }
 {
+    let _cells = problem.cells();
     match number {
-        4 => Ok(starts_from_seed(problem, grid, seed, run, views)),
+        4 => Ok(starts_from_seed(problem, seed, views)),
         5 => Ok(keep_rules(problem, run, views)),
         6 => Ok(cut_no_more(problem, run, views)),
         7 => are_settled(alloc, problem, run, views),
@@ -139,5 +147,46 @@ fn holds(
         14 => Ok(have_scores(problem, run, views)),
         15 => Ok(are_better_rightly(run)),
         _ => draws_answer(alloc, problem, drawn, run, views),
+    }
+}
+
+/// Whether the first trial has the seed's cells where they are.
+fn starts_from_seed(problem: &Problem, seed: &Placement, views: &[View]) -> bool
+    requires some { 1 ≤ length views.now }
+    requires first { (view : View) → slice_get views.now 0 ≡ Some view → IfSome view.layout (IsLayoutFor problem.now) }
+    requires seed { IsPlacementOf problem.now seed.now }
+    ensures { (view : View) → slice_get views.now 0 ≡ Some view → IsTrue result ↔ StartsView problem.now seed.now view.layout }
+{
+    match &views[0].layout {
+        Some(layout) => starts_like(problem, seed, layout),
+        None => false,
+    }
+}
+
+/// Whether the cost is the problem's, and each score that of its trial's cells and terminals.
+fn have_scores(problem: &Problem, run: &Run, views: &[View]) -> bool
+    requires views { (grid : Slots) × AreViews problem.now grid run.now views.now }
+    requires listed { OfPlaced run.now (AreCutsListed problem.now) }
+    ensures { (grid : Slots) → AreViews problem.now grid run.now views.now
+        → IsTrue result ↔ ((run.now.cost ≡ problem.now.plan.terminal.cost) × OfPlaced run.now (IsScoreOf problem.now grid)) }
+{
+    run.cost() == problem.dies().terminal().cost && are_scores(problem, run, views)
+}
+
+/// Whether the drawing is that of the answer.
+fn draws_answer(
+    alloc: Global,
+    problem: &Problem,
+    drawn: &Drawn,
+    run: &Run,
+    views: &[View],
+) -> Result<bool, NoMemory>
+    requires within { run.now.answer < length views.now }
+    requires right { (view : View) → slice_get views.now run.now.answer ≡ Some view → IfSome view.layout (IsAnswerFor problem.now drawn.now) }
+    ensures { IfOk result (λ b. (view : View) → slice_get views.now run.now.answer ≡ Some view → IsTrue b ↔ DrawsView problem.now drawn.now view.layout) }
+{
+    match &views[run.answer() as usize].layout {
+        Some(layout) => draws(alloc, problem, drawn, &layout.placement),
+        None => Ok(false),
     }
 }
