@@ -192,6 +192,7 @@ module _ (p : Netlist) (grid : Slots) (drawing : Drawing) (run : ShownRun) (soun
       record {
         ending_is = none.is;
         dies_are = refl;
+        within = of.tops;
         distinct = lists;
         no_top = of.no_top;
         no_bottom = of.no_bottom;
