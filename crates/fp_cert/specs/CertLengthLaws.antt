@@ -1,9 +1,7 @@
 -- The certificate of a run of the problem has under 2^30 bytes: a number takes at most 20 with the space before it, so the line of a cell
 -- takes at most 105, that of a cut net 64 and that of a segment 48, and a trial takes at most 2^26.
 use Rattle.std.specs.Prelude.{◌≡◌, ℕ, suc, ◌+◌, ◌*◌, ◌^◌, ◌<◌, ◌≤◌, Bool, true, false, ◌==◌, if◌then◌else◌, List, [], ◌∷◌, ◌++◌, length, All, codes, decimal, ℤ, pos, negsuc, flat_map}
-use Rattle.std.specs.List.{sum_by}
-use Rattle.std.specs.Fmt.{signed_decimal}
-use Rattle.std.proofs.Common.{refl, ap, ◌∙◌, arith, length-append}
+use Rattle.std.proofs.Common.{arith, length-append}
 use Rattle.std.proofs.lemmas.Fmt.{length-decimal-le}
 use Rattle.std.proofs.lemmas.Int.{ints}
 use Rattle.std.proofs.lemmas.List.Concat.{length-flat_map}
@@ -20,9 +18,9 @@ use Rattle.fp_cert.specs.declared.shown.CellShown.{CellShown}
 use Rattle.fp_cert.specs.declared.shown.CutShown.{CutShown}
 use Rattle.fp_cert.specs.declared.shown.Ending.{Ending}
 use Rattle.fp_cert.specs.declared.shown.Ending.TheVariants.{Start, Better, NotBetter, NoRow}
-use Rattle.fp_cert.specs.Shown.{ShownRow, ShownTrial, ShownRun, rows_of}
-use Rattle.fp_cert.specs.CertText.{field, signed_field, number_line, pair_line, cell_line, row_lines, die_word, die_lines, cut_line, cut_lines, trial_lines, top_line, top_lines, ending_line, shown_lines, trial_text, trials_text, version_lines, cert_text}
-use Rattle.fp_cert.specs.OfProblem.{most_shown, most_lines, IsTargetAt, IsCellOf, IsRowOf, IsCutOf, cells_in, IsPlacedTrialOf, IsRowlessTrialOf, IsEndedTrialOf, IsTrialOf, IsRunOf}
+use Rattle.fp_cert.specs.Shown.{ShownRow, ShownTrial, ShownRun}
+use Rattle.fp_cert.specs.CertText.{field, signed_field, number_line, cell_line, row_lines, die_word, die_lines, cut_line, cut_lines, trial_lines, top_line, top_lines, ending_line, shown_lines, trial_text, trials_text, version_lines, cert_text}
+use Rattle.fp_cert.specs.OfProblem.{IsTargetAt, IsCellOf, IsRowOf, IsCutOf, cells_in, IsPlacedTrialOf, IsRowlessTrialOf, IsEndedTrialOf, IsTrialOf, IsRunOf}
 
 -- ---- fields
 

@@ -1,9 +1,7 @@
 -- A run of a problem: its ids are below the problem's counts, its lists are as long as the problem has it, and its numbers are in range.
 use Rattle.std.specs.Prelude.{◌≡◌, ℕ, ◌+◌, ◌<◌, ◌≤◌, ◌^◌, List, [], length, All, ℤ, pos, neg_ℤ, ◌≤ℤ◌}
 use Rattle.std.specs.List.{sum_by}
-use Rattle.fp_base.specs.declared.ids.CellId.{CellId}
 use Rattle.fp_base.specs.declared.ids.Die.{Die}
-use Rattle.fp_base.specs.declared.ids.Die.TheVariants.{Top, Bottom}
 use Rattle.fp_tech.specs.Plan.{segments}
 use Rattle.fp_netlist.specs.Netlist.{Netlist}
 use Rattle.fp_place.specs.Drawing.{IsCoordinate}
