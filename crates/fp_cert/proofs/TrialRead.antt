@@ -1,8 +1,7 @@
 -- What a trial's lines read, one part behind the other, and what a file's parts read.
-use Rattle.std.proofs.Common.{◌≡◌, ℕ, ◌+◌, ◌^◌, ◌≤◌, List, [], ◌++◌, length, Result, Ok, Err, refl, sym, ap, subst, ◌∙◌, arith}
+use Rattle.std.proofs.Common.{◌≡◌, ℕ, ◌+◌, ◌^◌, ◌≤◌, List, [], ◌++◌, Result, Ok, Err, refl, sym, ap, subst, ◌∙◌, arith}
 use Rattle.std.specs.Prelude.{codes, IfOk, IsTrue}
 use Rattle.fp_base.specs.declared.ids.Die.TheVariants.{Top, Bottom}
-use Rattle.fp_text.specs.Words.{Word}
 use Rattle.fp_text.specs.Reading.{Left, Read, Fault, whole, end_next, many_next, GivesFault, Gives, Ends}
 use Rattle.fp_text.specs.declared.fault.Kind.TheVariants as kinds
 use Rattle.fp_text.specs.declared.fault.TextFault.{TextFault}
@@ -23,7 +22,7 @@ use Rattle.fp_cert.specs.CertReading.{line_next, rows_next, cut_next, listed_nex
 use Rattle.fp_cert.specs.CertReadingLaws.{lines_ok, read_is_in, is_in_read}
 use Rattle.fp_cert.specs.CertRunLaws.{placed_is, run_is}
 use Rattle.fp_cert.specs.CertReadBack.{says_run}
-use Rattle.fp_cert.specs.Growing.{with_rows, with_cuts, with_trials, Becomes, Finishes}
+use Rattle.fp_cert.specs.Growing.{with_rows, with_cuts, with_trials, Finishes}
 
 -- ---- a trial's lines
 

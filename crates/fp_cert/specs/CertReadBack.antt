@@ -1,6 +1,6 @@
 -- What the certificate of a run of the problem says is read as that run.
 use Rattle.std.proofs.Common.{◌≡◌, ℕ, zero, suc, ◌+◌, ◌-◌, ◌^◌, ◌<◌, ◌≤◌, Bool, true, false, cond, List, [], ◌∷◌, ◌++◌, length, flat_map, refl, sym, ap, subst, ◌∙◌, arith, append_assoc, length-append, inl, inr}
-use Rattle.std.specs.Prelude.{All, codes, decimal, Ok, ℤ, pos, negsuc, nat_abs, slice_index, ◌==◌}
+use Rattle.std.specs.Prelude.{All, codes, decimal, ℤ, pos, negsuc, nat_abs, slice_index, ◌==◌}
 use Rattle.std.specs.Fmt.{signed_decimal}
 use Rattle.std.proofs.lemmas.Bool.{eqb-true, eqb-false}
 use Rattle.std.proofs.lemmas.Int.{ints}
@@ -22,10 +22,10 @@ use Rattle.fp_cert.specs.declared.shown.CellShown.{CellShown}
 use Rattle.fp_cert.specs.declared.shown.CutShown.{CutShown}
 use Rattle.fp_cert.specs.declared.shown.Ending.{Ending}
 use Rattle.fp_cert.specs.declared.shown.Ending.TheVariants.{Start, Better, NotBetter, NoRow}
-use Rattle.fp_cert.specs.Shown.{ShownRow, ShownTrial, ShownRun, rows_of}
-use Rattle.fp_cert.specs.CertText.{number_line, pair_line, cell_line, row_lines, die_word, die_lines, cut_line, cut_lines, trial_lines, top_line, top_lines, ending_line, shown_lines, trial_text, trials_text, version_lines, cert_text}
+use Rattle.fp_cert.specs.Shown.{ShownRow, ShownTrial, ShownRun}
+use Rattle.fp_cert.specs.CertText.{number_line, cell_line, row_lines, die_word, die_lines, cut_line, trial_lines, top_line, top_lines, ending_line, shown_lines, trial_text, trials_text, version_lines, cert_text}
 use Rattle.fp_cert.specs.OfProblem.{most_shown, most_lines, IsTargetAt, IsCellOf, IsRowOf, IsCutOf, cells_in, IsPlacedTrialOf, IsRowlessTrialOf, IsEndedTrialOf, IsTrialOf, IsRunOf}
-use Rattle.fp_cert.specs.CertGrammar.{most_number, most_target, Keyword, Number, Below, Coordinate, TargetAt, IsNumberLine, IsCellLine, IsRowLines, IsDieLines, IsCutLine, IsListed, AreLines, IsTopLine, AreTops, IsEnding, AreShown, IsTrialText, IsVersion, IsCert, ReadsCert}
+use Rattle.fp_cert.specs.CertGrammar.{most_number, most_target, Keyword, Number, Below, Coordinate, TargetAt, IsNumberLine, IsCellLine, IsRowLines, IsDieLines, IsCutLine, IsListed, AreLines, IsTopLine, AreTops, IsEnding, AreShown, IsTrialText, IsVersion, ReadsCert}
 use Rattle.fp_cert.specs.CertRunLaws.{run_is}
 
 -- ---- pieces of a text

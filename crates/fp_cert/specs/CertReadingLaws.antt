@@ -1,5 +1,5 @@
 -- Laws of reading a certificate file: what is read is in the grammar, what is in the grammar is read, and bytes say at most one run.
-use Rattle.std.proofs.Common.{◌≡◌, ℕ, ◌+◌, ◌-◌, ◌^◌, ◌<◌, ◌≤◌, List, [], ◌∷◌, ◌++◌, length, Ok, refl, sym, ap, subst, ◌∙◌, arith, length-append}
+use Rattle.std.proofs.Common.{◌≡◌, ℕ, ◌+◌, ◌-◌, ◌^◌, ◌≤◌, List, [], ◌∷◌, ◌++◌, length, Ok, refl, sym, ap, subst, ◌∙◌, arith, length-append}
 use Rattle.std.specs.Prelude.{codes, ◌↔◌}
 use Rattle.fp_base.specs.declared.ids.CellId.{CellId}
 use Rattle.fp_base.specs.declared.ids.Die.{Die}
@@ -13,13 +13,12 @@ use Rattle.fp_tech.specs.Plan.{segments}
 use Rattle.fp_tech.specs.PlanLaws.{few_segments}
 use Rattle.fp_netlist.specs.Netlist.{Netlist, IsSound}
 use Rattle.fp_cert.specs.declared.shown.CellShown.{CellShown}
-use Rattle.fp_cert.specs.declared.shown.CutShown.{CutShown}
 use Rattle.fp_cert.specs.declared.shown.Ending.{Ending}
 use Rattle.fp_cert.specs.declared.shown.Ending.TheVariants.{Start, Better, NotBetter, NoRow}
 use Rattle.fp_cert.specs.Shown.{ShownRow, ShownTrial, ShownRun, run_without}
 use Rattle.fp_cert.specs.CertText.{die_word}
-use Rattle.fp_cert.specs.OfProblem.{most_shown, most_lines, cells_in}
-use Rattle.fp_cert.specs.CertGrammar.{IsNumberLine, IsCellLine, IsRowLines, IsDieLines, IsCutLine, IsListed, AreLines, IsTopLine, AreTops, IsEnding, AreShown, IsTrialText, IsVersion, IsCert, ReadsCert}
+use Rattle.fp_cert.specs.OfProblem.{most_lines, cells_in}
+use Rattle.fp_cert.specs.CertGrammar.{IsNumberLine, IsCellLine, IsRowLines, IsDieLines, IsCutLine, IsListed, AreLines, IsTopLine, AreTops, IsEnding, AreShown, IsTrialText, IsVersion, ReadsCert}
 use Rattle.fp_cert.specs.CertReading.{amount_next, line_next, cell_next, row_next, row_item, rows_next, cut_next, listed_next, score_next, lines_next, top_next, tops_next, ending_next, shown_next, trial_next, trial_item, version_next, trials_next, run_next, cert_of}
 use Rattle.fp_cert.specs.CertTokensLaws.{Took, Takes, Stood, amount_ok, amount_again, line_ok, line_again, score_ok, score_again, cell_ok, cell_again, cut_ok, cut_again, top_ok, top_again, ending_ok, ending_again, version_ok, version_again}
 

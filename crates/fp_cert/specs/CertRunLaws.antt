@@ -1,6 +1,6 @@
 -- What a certificate file says is a run of the problem.
-use Rattle.std.proofs.Common.{◌≡◌, ℕ, ◌+◌, ◌-◌, ◌^◌, ◌<◌, ◌≤◌, Bool, true, false, cond, List, [], ◌∷◌, ◌++◌, length, Result, Ok, Err, refl, sym, ap, subst, ◌∙◌, arith, append_assoc, inl, inr}
-use Rattle.std.specs.Prelude.{All, codes, ℤ, pos, neg_ℤ, ◌≤ℤ◌, ◌==◌}
+use Rattle.std.proofs.Common.{◌≡◌, ℕ, ◌+◌, ◌-◌, ◌^◌, ◌<◌, ◌≤◌, Bool, true, false, cond, List, [], ◌∷◌, ◌++◌, length, Result, Ok, Err, refl, sym, subst, arith, append_assoc, inl, inr}
+use Rattle.std.specs.Prelude.{All, ℤ, pos, neg_ℤ, ◌==◌}
 use Rattle.std.proofs.lemmas.Int.{ints}
 use Rattle.std.proofs.lemmas.List.{append-nil}
 use Rattle.std.proofs.lemmas.List.Elements.{All-nil, All-cons}
@@ -20,9 +20,8 @@ use Rattle.fp_cert.specs.declared.shown.CutShown.{CutShown}
 use Rattle.fp_cert.specs.declared.shown.Ending.{Ending}
 use Rattle.fp_cert.specs.declared.shown.Ending.TheVariants.{Start, Better, NotBetter, NoRow}
 use Rattle.fp_cert.specs.Shown.{ShownRow, ShownTrial, ShownRun, rows_of}
-use Rattle.fp_cert.specs.CertText.{die_word}
 use Rattle.fp_cert.specs.OfProblem.{most_lines, IsTargetAt, IsCellOf, IsRowOf, IsCutOf, cells_in, IsPlacedTrialOf, IsRowlessTrialOf, IsEndedTrialOf, IsTrialOf, IsRunOf}
-use Rattle.fp_cert.specs.CertGrammar.{most_target, Coordinate, TargetAt, IsCellLine, IsRowLines, IsDieLines, IsCutLine, AreLines, IsTopLine, AreTops, IsEnding, AreShown, IsTrialText, IsVersion, IsCert, ReadsCert}
+use Rattle.fp_cert.specs.CertGrammar.{most_target, Coordinate, IsCellLine, IsRowLines, IsDieLines, IsCutLine, AreLines, IsTopLine, AreTops, IsEnding, AreShown, IsTrialText, IsVersion, ReadsCert}
 use Rattle.fp_cert.specs.CertTokensLaws.{spelled_ok}
 
 -- a fact of each item that stands in words

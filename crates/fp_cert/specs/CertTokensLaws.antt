@@ -1,5 +1,5 @@
 -- Laws of reading one line of a certificate file: what is read is in the grammar, and what is in the grammar is read.
-use Rattle.std.proofs.Common.{◌≡◌, ℕ, ◌^◌, ◌<◌, ◌≤◌, Bool, true, false, cond, List, [], ◌∷◌, ◌++◌, length, Result, Ok, Err, refl, sym, ap, subst, ◌∙◌, arith, inl, inr, ◌⊎◌}
+use Rattle.std.proofs.Common.{◌≡◌, ℕ, ◌^◌, ◌<◌, ◌≤◌, Bool, true, false, cond, List, ◌∷◌, length, Result, Ok, Err, refl, sym, ap, subst, ◌∙◌, arith, inl, inr, ◌⊎◌}
 use Rattle.std.specs.Prelude.{codes, ℤ, pos, nat_lt, nat_le, ◌==◌}
 use Rattle.std.specs.Str.{bytes_eq}
 use Rattle.std.proofs.lemmas.Bool.{ltb-true, lt-ltb, leb-true, le-leb, eqb-true, eqb-false}
@@ -21,8 +21,8 @@ use Rattle.fp_cert.specs.declared.shown.CutShown.{CutShown}
 use Rattle.fp_cert.specs.declared.shown.Ending.{Ending}
 use Rattle.fp_cert.specs.declared.shown.Ending.TheVariants.{Start, Better, NotBetter, NoRow}
 use Rattle.fp_cert.specs.OfProblem.{most_shown}
-use Rattle.fp_cert.specs.CertGrammar.{most_number, most_target, Keyword, Number, Below, Coordinate, TargetAt, IsNumberLine, IsCellLine, IsCutLine, IsTopLine, IsEnding, IsVersion}
-use Rattle.fp_cert.specs.CertReading.{value_at, below_at, below_next, amount_next, signed_next, target_next, line_next, cell_next, cut_next, score_next, top_next, rowless_next, ending_by, ending_next, cost_next, version_next}
+use Rattle.fp_cert.specs.CertGrammar.{most_number, most_target, Keyword, Number, Below, TargetAt, IsNumberLine, IsCellLine, IsCutLine, IsTopLine, IsEnding, IsVersion}
+use Rattle.fp_cert.specs.CertReading.{value_at, below_at, below_next, amount_next, signed_next, target_next, line_next, cell_next, cut_next, score_next, top_next, rowless_next, ending_next, version_next}
 
 -- a reader's value stands in the words that it took, and what stands there is read
 abbrev pub Took : {A : Type 0} → (A → List Word → List Word → Type 0) → (Left → Read A) → Type 0

@@ -1,6 +1,5 @@
 use Rattle.std.proofs.Common.{ℕ, subst}
 use Rattle.std.specs.Prelude.{◌≡◌, IfOk}
-use Rattle.fp_tech.specs.Slots.{slot_count}
 use Rattle.fp_cert.specs.OfProblem.{IsTrialOf}
 use Rattle.fp_cert.specs.CertGrammar.{AreLines}
 use Rattle.fp_cert.proofs.TrialRead.{slots_of, lines_in_grammar, lines_of_problem}

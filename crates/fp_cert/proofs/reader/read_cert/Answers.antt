@@ -45,4 +45,4 @@ returns-clause-back c = λ grid is run of_problem same.
     (subst (λ (n : ℕ). GivesRun c.whole_run.result (cert_of c.args.problem.now n c.args.bytes.now)) slots c.whole_run.ensures)
 
 pub returns-clause-short : goal.returns-clause-short
-returns-clause-short c = λ grid is. cert_short c.args.problem.now (slot_count grid) c.cells-cells.ensures.sound (omega (arith, is.few))
+returns-clause-short c = λ grid is run of_problem. omega (arith, cert_short c.args.problem.now (slot_count grid) c.cells-cells.ensures.sound (omega (arith, is.few)) run of_problem)
