@@ -64,9 +64,9 @@ growing_can_take cost columns row m old l growing = can_take cost columns row m 
 pub growing_prices : (cost : ℕ → ℕ → ℕ) (columns row : ℕ) (m : Matching) (old l : Labels) → IsMatching cost columns row m → Fits columns row m
     → IsGrowing cost columns row m old l → HasPrices m l
 growing_prices cost columns row m old l matched fits growing = record {
-  rows = λ k waits lt. omega (arith, fits.chosen, held_row cost columns row m l k growing.tree (omega arith) lt);
-  columns = λ k waits lt.
-      let in_row : row_at l k < row = held_row cost columns row m l k growing.tree (omega arith) lt in
+  rows = λ k pos lt. omega (arith, fits.chosen, held_row cost columns row m l k growing.tree pos lt);
+  columns = λ k pos lt.
+      let in_row : row_at l k < row = held_row cost columns row m l k growing.tree pos lt in
       omega (arith, fits.prices, matched.agree.in_range (row_at l k) in_row);
 }
 

@@ -11,6 +11,7 @@ use Rattle.fp_match.proofs.Tree.{cov_mono, link_kept, sink_kept}
 
 pub can_take : (cost : ℕ → ℕ → ℕ) (columns row : ℕ) (m : Matching) (l : Labels) → IsTree cost columns row m l → CanTake l
 can_take cost columns row m l tree = record {
+  after = tree.after;
   within = tree.within;
   places = tree.places;
   labels = λ k lt. omega (arith, tree.reached k lt, tree.room.labels);

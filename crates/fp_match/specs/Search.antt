@@ -200,16 +200,17 @@ pub record IsStarted (row : ℕ) (old new : Labels) : Type 0 where
   pub at : new.at ≡ 0
   pub level : new.level ≡ far
 
--- the places and labels of rows reached are in range
+-- the places and labels of rows reached are in range, and none that waits lies nearer than the row settled last
 pub record CanTake (l : Labels) : Type 0 where
+  pub after : (k : ℕ) → l.at < k → k < l.count → label_of l (row_at l l.at) ≤ label_of l (row_at l k)
   pub within : l.at < l.count
   pub places : l.count ≤ length l.reached.items
   pub labels : (k : ℕ) → k < l.count → row_at l k < length l.label.items
 
--- the rows that wait have columns
+-- the rows behind the first have columns
 pub record HasPrices (m : Matching) (l : Labels) : Type 0 where
-  pub rows : (k : ℕ) → l.at < k → k < l.count → row_at l k < length m.column_of.items
-  pub columns : (k : ℕ) → l.at < k → k < l.count → column_of m (row_at l k) < length m.prices.items
+  pub rows : (k : ℕ) → 0 < k → k < l.count → row_at l k < length m.column_of.items
+  pub columns : (k : ℕ) → 0 < k → k < l.count → column_of m (row_at l k) < length m.prices.items
 
 -- the place of the nearest row that waits, if one does
 pub record IsNearest (l : Labels) (k : ℕ) : Type 0 where

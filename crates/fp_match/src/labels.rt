@@ -74,8 +74,8 @@ impl Labels {
         self.last = self.at;
     }
 
-    /// Whether the row at the place lies nearer than the row at the other one. Of two that are equally near it is the one whose column has
-    /// the lower price, or else the one reached later: unused columns are near there.
+    /// Whether the row at the place lies nearer than the row at the other one, or as near where the price of its column is lower: unused
+    /// columns are near there.
     fn is_nearer(&self, matching: &Matching, place: usize, other: usize) -> bool
         requires take { CanTake self.now }
         requires held { HasPrices matching.now self.now }
@@ -96,17 +96,54 @@ impl Labels {
         if least < label {
             return false;
         }
-        matching.price_held(row) <= matching.price_held(best)
+        matching.price_held(row) < matching.price_held(best)
     }
 
-    /// The place of the nearest row that waits. It is at least `count` where none does.
+    /// Whether the row at the place lies as near as the row that was settled last, so that none lies nearer, and the price of its column is
+    /// no higher than this.
+    fn is_at_hand(&self, matching: &Matching, place: usize, price: u64) -> bool
+        requires take { CanTake self.now }
+        requires held { HasPrices matching.now self.now }
+        requires place_waits { self.now.at < place }
+        requires place_in { place < self.now.count }
+        ensures { OnTrue result (label_of self.now (row_at self.now place) ≤ label_of self.now (row_at self.now self.now.at)) }
+    {
+        let row = self.reached[place];
+        let settled = self.reached[self.at];
+        if self.label[settled as usize] < self.label[row as usize] {
+            return false;
+        }
+        matching.price_held(row) <= price
+    }
+
+    /// The price of the column of the row that was settled last. The row that the search began at has none: then no price is higher.
+    fn price_settled(&self, matching: &Matching) -> u64
+        requires take { CanTake self.now }
+        requires held { HasPrices matching.now self.now }
+    {
+        if self.at == 0 {
+            return u64::MAX;
+        }
+        matching.price_held(self.reached[self.at])
+    }
+
+    /// The place of the nearest row that waits, where one does. Of equally near rows it is one whose column has a low price, and one reached
+    /// late: it looks at the last ones first, and no further than to one that is at hand.
     fn nearest(&self, matching: &Matching) -> usize
         requires take { CanTake self.now }
         requires held { HasPrices matching.now self.now }
-        ensures { IsNearest self.now result }
+        requires waits { self.now.at + 1 < self.now.count }
+        ensures nearest { IsNearest self.now result }
+        ensures within { result < self.now.count }
     {
-        let mut best = self.at + 1;
-        for place in self.at + 1..self.count {
+        let price = self.price_settled(matching);
+        let mut best = self.count - 1;
+        let mut place = self.count;
+        while place > self.at + 1 {
+            place -= 1;
+            if self.is_at_hand(matching, place, price) {
+                return place;
+            }
             if self.is_nearer(matching, place, best) {
                 best = place;
             }
@@ -122,10 +159,10 @@ impl Labels {
         ensures stays { OnFalse result (self.new ≡ self.old) }
         ensures none { OnFalse result (HasReached self.old) }
     {
-        let place = self.nearest(matching);
-        if place >= self.count {
+        if self.at + 1 >= self.count {
             return false;
         }
+        let place = self.nearest(matching);
         let row = self.reached[place];
         if self.label[row as usize] >= self.level {
             return false;

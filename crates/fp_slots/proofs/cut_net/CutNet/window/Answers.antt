@@ -3,7 +3,7 @@ use Rattle.std.proofs.lemmas.Bool.{cases_lt}
 use Rattle.std.specs.Int.{int_min, int_max}
 use Rattle.std.proofs.lemmas.Int.{ints, to_z-of_z}
 use Rattle.fp_slots.specs.CutNets.{fixed_length}
-use Rattle.fp_slots.proofs.Windows.{AreEnds, no_window, is_window, left_found, right_found, ends_found}
+use Rattle.fp_slots.proofs.Windows.{no_window, is_window, left_found, right_found, ends_found}
 use Rattle.fp_slots.proofs.cut_net.CutNet.window.Goals as goal
 
 pub returns-then-slack-eq0 : goal.returns-then-slack-eq0
