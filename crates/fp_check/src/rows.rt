@@ -16,7 +16,7 @@ use fp_tech::Segment;
 use std::alloc::Global;
 
 /// What is asked of each row: that its cells stand in their order without overlap, or that its duals show them to cost the least, too.
-#[derive(Clone, Copy, Debug, PartialEq, Eq)]
+#[derive(Clone, Copy)]
 enum Asked {
     Order,
     Duals,
