@@ -11,9 +11,13 @@ pub at_both : {A B : Type 0} (fact : A → B → Type 0) (xs : List A) (ys : Lis
 at_both fact xs ys k j a b at also is x y there too =
     subst (λ z. fact x z) (same_Some b y (sym also ∙ too)) (subst (λ z. fact z b) (same_Some a x (sym at ∙ there)) is)
 
--- an element that is read stands at its number
+-- the element of a number stands there, in each list that is the same
+pub stands_at : {A : Type 0} (xs ys : List A) (k : ℕ) (d : A) → xs ≡ ys → k < length xs → slice_get ys k ≡ Some (get_or xs k d)
+stands_at {A} xs ys k d same below = ap (λ (list : List A). slice_get list k) (sym same) ∙ slice_get-get_or xs k d below
+
+-- and so does an element that is read
 pub read_at : {A : Type 0} (xs ys : List A) (k : ℕ) (x : A) → xs ≡ ys → k < length xs → x ≡ get_or xs k x → slice_get ys k ≡ Some x
-read_at {A} xs ys k x same below is = ap (λ (list : List A). slice_get list k) (sym same) ∙ slice_get-get_or xs k x below ∙ ap Some (sym is)
+read_at xs ys k x same below is = stands_at xs ys k x same below ∙ ap Some (sym is)
 
 -- lists of one length with the same elements are the same
 pub same_by_get : {A : Type 0} (xs ys : List A) → length xs ≡ length ys → ((k : ℕ) → k < length xs → slice_get xs k ≡ slice_get ys k) → xs ≡ ys

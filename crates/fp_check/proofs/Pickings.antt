@@ -1,5 +1,5 @@
 -- Targets and rows of a trial over its base, as the checker holds them.
-use Rattle.std.proofs.Common.{◌≡◌, ℕ, ◌+◌, ◌-◌, ◌<◌, ◌≤◌, true, false, List, length, map, get_or, slice_get, Option, Some, None, Result, Ok, Err, refl, sym, ap, subst, ◌∙◌, arith}
+use Rattle.std.proofs.Common.{◌≡◌, ℕ, ◌+◌, ◌-◌, ◌<◌, ◌≤◌, true, false, List, length, get_or, slice_get, Option, Some, None, Result, Ok, Err, refl, sym, ap, subst, ◌∙◌, arith}
 use Rattle.std.specs.Prelude.{Bool, IsTrue, ◌↔◌, ◌==◌, ◌&&◌, Decides, IfOk, IfSome, MatchOption}
 use Rattle.std.specs.Ordering.{int_eq}
 use Rattle.std.proofs.lemmas.Bool.{false≢true}
@@ -24,12 +24,12 @@ use Rattle.fp_cert.specs.declared.shown.Ending.{Ending}
 use Rattle.fp_cert.specs.declared.shown.Ending.TheVariants.{Start, Better, NotBetter, NoRow}
 use Rattle.fp_cert.specs.Endings.{has_rows}
 use Rattle.fp_cert.specs.Shown.{ShownTrial, ShownRun}
-use Rattle.fp_cert.specs.Standing.{target_by, stand_of, lanes_shown, dies_shown, places_shown, targets_shown}
+use Rattle.fp_cert.specs.Standing.{target_by, stand_of, dies_shown, places_shown, targets_shown}
 use Rattle.fp_cert.specs.Trials.{no_trial}
 use Rattle.fp_check.specs.declared.views.Layout.{Layout}
 use Rattle.fp_check.specs.declared.views.View.{View}
 use Rattle.fp_check.specs.Conditions.{IsPick, LanesArePicked, HasNoRow}
-use Rattle.fp_check.specs.Picks.{HaveLayouts, IfBoth, HasTargets, StopsAt, AreLanesPicked, StopsOver, HasRowsBy, HasRows, IsNearLayout}
+use Rattle.fp_check.specs.Picks.{HaveLayouts, IfBoth, HasTargets, StopsAt, AreLanesPicked, HasRowsBy, HasRows, IsNearLayout}
 use Rattle.fp_check.specs.Views.{IsLayoutOf, IsViewOf, AreViews}
 
 -- ---- what equality tests say

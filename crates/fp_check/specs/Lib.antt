@@ -10,6 +10,7 @@ pub mod DrawsLaws
 pub mod Finding
 pub mod Marks
 pub mod RoomLaws
+pub mod Picks
 pub mod Rooms
 pub mod Seeds
 pub mod SeedsLaws

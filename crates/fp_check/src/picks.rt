@@ -49,7 +49,13 @@ fn has_targets(alloc: Global, problem: &Problem, base: &View, view: &View) -> Re
     ensures { IfOk result (λ b. IsTrue b ↔ HasTargets problem.now base.now view.now) }
 {
     match (&base.layout, &view.layout) {
-        (Some(from), Some(to)) => are_targets(alloc, problem, &from.placement, &view.dies, &to.targets),
+        (Some(from), Some(to)) => are_targets(
+            alloc,
+            problem,
+            &from.placement,
+            &view.dies,
+            &to.targets,
+        ),
         _ => Ok(true),
     }
 }
@@ -88,7 +94,13 @@ pub fn have_rows(
     let _cells = problem.cells();
     let trials = run.trials();
     for number in 1..trials.len() {
-        if !has_rows(alloc, problem, trials[number].ending(), &views[number - 1], &views[number])? {
+        if !has_rows(
+            alloc,
+            problem,
+            trials[number].ending(),
+            &views[number - 1],
+            &views[number],
+        )? {
             return Ok(false);
         }
     }
@@ -127,7 +139,8 @@ fn picks_lanes(
 {
     match pick(alloc, problem, dies, &layout.targets)? {
         Picked::Rows { top, bottom } => {
-            let same = are_lanes(problem, &top, &layout.placement) && are_lanes(problem, &bottom, &layout.placement);
+            let same = are_lanes(problem, &top, &layout.placement)
+                && are_lanes(problem, &bottom, &layout.placement);
             drop(top);
             drop(bottom);
             Ok(same)
@@ -164,7 +177,13 @@ fn stops_over(
     ensures { IfOk result (λ b. IsTrue b ↔ StopsOver problem.now dies.now base.now ending) }
 {
     match (base, ending) {
-        (Some(layout), Ending::NoRow(cell)) => stops_at(alloc, problem, dies, &layout.placement, cell),
+        (Some(layout), Ending::NoRow(cell)) => stops_at(
+            alloc,
+            problem,
+            dies,
+            &layout.placement,
+            cell,
+        ),
         _ => Ok(false),
     }
 }

@@ -16,7 +16,7 @@ use fp_tech::Segment;
 use std::alloc::Global;
 
 /// What is asked of each row: that its cells stand in their order without overlap, or that its duals show them to cost the least, too.
-#[derive(Clone, Copy, Debug, PartialEq, Eq)]
+#[derive(Clone, Copy)]
 enum Asked {
     Order,
     Duals,
@@ -125,7 +125,14 @@ fn rows_meet(
     let segments = problem.dies().segments_of(die);
     let rows = trial.rows(die);
     for number in 0..segments.len() {
-        if !row_meets(problem, die, &segments[number], &rows[number], asked, scratch)? {
+        if !row_meets(
+            problem,
+            die,
+            &segments[number],
+            &rows[number],
+            asked,
+            scratch,
+        )? {
             return Ok(false);
         }
     }
@@ -151,12 +158,7 @@ fn row_meets(
 }
 
 /// Makes a scratch hold a row.
-fn fill(
-    problem: &Problem,
-    die: Die,
-    row: &RowShown,
-    scratch: &mut Scratch,
-) -> Result<(), NoMemory>
+fn fill(problem: &Problem, die: Die, row: &RowShown, scratch: &mut Scratch) -> Result<(), NoMemory>
     requires { All (λ line. line.cell.0 < length problem.now.cells) row.now.cells }
     ensures cells { OnOk result (scratch.new.cells.items ≡ row_cells problem.now die row.now) }
     ensures xs { OnOk result (scratch.new.xs.items ≡ row_xs row.now) }

@@ -53,7 +53,8 @@ fn is_in_order(problem: &Problem, placement: &Placement) -> bool
     requires { IsPlacementOf problem.now placement.now }
     ensures { IsTrue result ↔ IsInOrder problem.now placement.now }
 {
-    is_die_in_order(problem, placement, Die::Top) && is_die_in_order(problem, placement, Die::Bottom)
+    is_die_in_order(problem, placement, Die::Top)
+        && is_die_in_order(problem, placement, Die::Bottom)
 }
 
 /// The same on one die.

@@ -1,10 +1,10 @@
-use Rattle.std.proofs.Common.{◌≡◌, ◌<◌, List, length, get_or, slice_get, Some, pos, ap, sym, ◌∙◌, below_more, arith}
-use Rattle.std.proofs.lemmas.Option.{slice_get-get_or, slice_get_within}
+use Rattle.std.proofs.Common.{◌≡◌, ◌<◌, length, get_or, slice_get, Some, pos, ap, ◌∙◌, below_more, arith}
+use Rattle.std.proofs.lemmas.Option.{slice_get_within}
 use Rattle.fp_tech.specs.declared.dies.Segment.{Segment}
 use Rattle.fp_tech.specs.Plan.{segments}
 use Rattle.fp_cert.specs.Shown.{ShownRow, rows_of}
 use Rattle.fp_check.specs.Rooms.{Meets}
-use Rattle.fp_check.proofs.Pairs.{at_both, read_at, refuted, none_where, all_where}
+use Rattle.fp_check.proofs.Pairs.{at_both, stands_at, read_at, refuted, none_where, all_where}
 use Rattle.fp_check.proofs.rows.rows_meet.Goals as goal
 use Rattle.fp_check.proofs.rows.rows_meet.Goals.{After-loop-number, After-index-rows-number}
 
@@ -12,12 +12,14 @@ use Rattle.fp_check.proofs.rows.rows_meet.Goals.{After-loop-number, After-index-
 same : (c : After-loop-number) → c.segments_of-segments.result.now ≡ segments c.args.problem.now.plan c.args.die
 same c = c.segments_of-segments.ensures.segments ∙ ap (λ plan. segments plan c.args.die) c.dies.ensures
 
+-- the segment that is looked at
 there : (c : After-index-rows-number)
     → slice_get (segments c.args.problem.now.plan c.args.die) c.loop-number.number ≡ Some (get_or c.segments_of-segments.result.now c.loop-number.number (record { y = pos 0; start = pos 0; length = pos 0 }))
 there c =
-    ap (λ (list : List Segment). slice_get list c.loop-number.number) (sym (c.segments_of-segments.ensures.segments ∙ ap (λ plan. segments plan c.args.die) c.dies.ensures))
-    ∙ slice_get-get_or c.segments_of-segments.result.now c.loop-number.number (record { y = pos 0; start = pos 0; length = pos 0 }) c.loop-number-test.true
+    stands_at c.segments_of-segments.result.now (segments c.args.problem.now.plan c.args.die) c.loop-number.number (record { y = pos 0; start = pos 0; length = pos 0 })
+    (c.segments_of-segments.ensures.segments ∙ ap (λ plan. segments plan c.args.die) c.dies.ensures) c.loop-number-test.true
 
+-- its row
 row_there : (c : After-index-rows-number) → slice_get (rows_of c.args.trial.now c.args.die) c.loop-number.number ≡ Some c.index-rows-number.result
 row_there c =
     let many = c.requires.long c.args.die in

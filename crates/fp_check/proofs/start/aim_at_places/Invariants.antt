@@ -1,4 +1,4 @@
-use Rattle.std.proofs.Common.{◌≡◌, ℕ, ◌<◌, get_or}
+use Rattle.std.proofs.Common.{◌≡◌, ℕ, ◌<◌}
 use Rattle.fp_place.specs.Places.{place_at}
 use Rattle.fp_place.specs.Placed.{places_of}
 use Rattle.fp_score.specs.Pick.{point_at}

@@ -1,27 +1,25 @@
-use Rattle.std.proofs.Common.{◌≡◌, ◌<◌, ◌+ℤ◌, List, length, get_or, slice_get, Some, pos, ap, sym, ◌∙◌, below_more, arith}
-use Rattle.std.proofs.lemmas.Option.{slice_get-get_or, slice_get_within}
+use Rattle.std.proofs.Common.{◌≡◌, ◌<◌, ◌+ℤ◌, List, length, get_or, slice_get, Some, pos, ap, ◌∙◌, below_more, arith}
+use Rattle.std.proofs.lemmas.Option.{slice_get_within}
 use Rattle.fp_base.specs.declared.ids.CellId.{CellId}
 use Rattle.fp_tech.specs.declared.dies.Segment.{Segment}
 use Rattle.fp_tech.specs.Plan.{segments}
 use Rattle.fp_place.specs.Placed.{places_of, lanes_of, StandBetween}
 use Rattle.fp_place.specs.PlacedLaws.{segment_in_range}
-use Rattle.fp_check.proofs.Pairs.{at_both, refuted, none_where, all_where}
+use Rattle.fp_check.proofs.Pairs.{at_both, stands_at, refuted, none_where, all_where}
 use Rattle.fp_check.proofs.Startings.{lane_within}
 use Rattle.fp_check.proofs.start.is_die_in_order.Goals as goal
 use Rattle.fp_check.proofs.start.is_die_in_order.Goals.{After-lane-lane, After-loop-number}
-
-no_segment : Segment
-no_segment = record { y = pos 0; start = pos 0; length = pos 0 }
 
 -- the segments that are walked are the die's
 same : (c : After-loop-number) → c.segments_of-segments.result.now ≡ segments c.args.problem.now.plan c.args.die
 same c = c.segments_of-segments.ensures.segments ∙ ap (λ plan. segments plan c.args.die) c.dies.ensures
 
+-- the segment that is looked at
 there : (c : After-lane-lane)
     → slice_get (segments c.args.problem.now.plan c.args.die) c.loop-number.number ≡ Some (get_or c.segments_of-segments.result.now c.loop-number.number (record { y = pos 0; start = pos 0; length = pos 0 }))
 there c =
-    ap (λ (list : List Segment). slice_get list c.loop-number.number) (sym (c.segments_of-segments.ensures.segments ∙ ap (λ plan. segments plan c.args.die) c.dies.ensures))
-    ∙ slice_get-get_or c.segments_of-segments.result.now c.loop-number.number (record { y = pos 0; start = pos 0; length = pos 0 }) c.loop-number-test.true
+    stands_at c.segments_of-segments.result.now (segments c.args.problem.now.plan c.args.die) c.loop-number.number (record { y = pos 0; start = pos 0; length = pos 0 })
+    (c.segments_of-segments.ensures.segments ∙ ap (λ plan. segments plan c.args.die) c.dies.ensures) c.loop-number-test.true
 
 pub stand_between-requires-clause-within : goal.stand_between-requires-clause-within
 stand_between-requires-clause-within c =

@@ -1,4 +1,4 @@
-use Rattle.std.proofs.Common.{◌≡◌, ◌+◌, ℤ, pos, ◌+ℤ◌, ◌≤ℤ◌, to_z, of_z, w64, drop, get_or, sym, subst, ◌∙◌, ap, arith}
+use Rattle.std.proofs.Common.{◌≡◌, ◌+◌, ℤ, pos, ◌+ℤ◌, ◌≤ℤ◌, to_z, of_z, w64, drop, get_or, sym, subst, arith}
 use Rattle.std.proofs.lemmas.Int.{ints}
 use Rattle.fp_base.specs.declared.ids.CellId.{CellId}
 use Rattle.fp_netlist.specs.Points.{width}
