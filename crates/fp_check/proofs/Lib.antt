@@ -1,0 +1,5 @@
+mod Marking
+mod Nexts
+mod Placing
+mod Standings
+mod Viewing

@@ -1,7 +1,7 @@
 //! Condition 3: each cell is listed exactly once on the segments of both dies; or, where there was no row for a cell, no cell is listed twice.
 
-ghost use Rattle.std.specs.Prelude.{◌≡◌, ◌↔◌, ◌<◌, ℕ, All, IfOk, IsTrue, length, map, nat_eq, list_all};
-ghost use Rattle.std.specs.List.{IsDistinct};
+ghost use Rattle.std.specs.Prelude.{◌≡◌, ◌↔◌, ◌<◌, ◌∷◌, [], ℕ, All, IfOk, IsTrue, length, map, get_or, nat_eq, true};
+ghost use Rattle.std.specs.List.{list_all, IsDistinct};
 ghost use Rattle.fp_cert.specs.OfProblem.{IsTrialOf, IsRunOf};
 ghost use Rattle.fp_check.specs.Conditions.{OfEach, StandOnceShown, ListsOnce};
 ghost use Rattle.fp_check.specs.Marks.{marked, cells_in, cells_in_rows, Marks};
@@ -86,12 +86,19 @@ fn mark_cells(lines: &[CellShown], seen: &mut Vec<bool>) -> bool
 fn mark(cell: CellId, seen: &mut Vec<bool>) -> bool
     ensures { Marks result seen.new.items (marked seen.old.items (cell.0 ∷ [])) }
 {
-    let place = cell.0 as usize;
-    if place >= seen.len() || seen[place] {
+    if is_marked(cell, seen.as_slice()) {
         return false;
     }
-    seen[place] = true;
+    seen[cell.0 as usize] = true;
     true
+}
+
+/// Whether a cell is marked, or has no place.
+fn is_marked(cell: CellId, seen: &[bool]) -> bool
+    ensures { result ≡ get_or seen.now cell.0 true }
+{
+    let place = cell.0 as usize;
+    place >= seen.len() || seen[place]
 }
 
 /// Whether all are marked.
