@@ -1,8 +1,9 @@
 -- Facts of each view and the one before it, and of the trials that they show.
-use Rattle.std.proofs.Common.{◌≡◌, ℕ, ◌+◌, ◌<◌, Bool, true, false, List, [], ◌∷◌, length, get_or, slice_get, Some, refl, sym, ap, subst, ◌∙◌, arith}
+use Rattle.std.proofs.Common.{◌≡◌, ℕ, ◌+◌, ◌-◌, ◌<◌, ◌≤◌, Bool, true, false, List, [], ◌∷◌, length, get_or, slice_get, Some, refl, sym, ap, subst, ◌∙◌, arith}
 use Rattle.std.specs.Prelude.{nat_eq}
 use Rattle.std.proofs.lemmas.Bool.Decides.{nat_tests}
-use Rattle.std.proofs.lemmas.Option.{slice_get_within, slice_get-get_or, slice_get_read}
+use Rattle.std.proofs.lemmas.Option.{slice_get_within, slice_get-get_or, slice_get_read, get_or_from_slice_get}
+use Rattle.fp_base.specs.declared.ids.Die.{Die}
 use Rattle.fp_tech.specs.Slots.{Slots}
 use Rattle.fp_netlist.specs.Netlist.{Netlist}
 use Rattle.fp_cert.specs.declared.shown.Ending.TheVariants as endings
@@ -94,3 +95,38 @@ of_views p grid run views are fact shown tells each number base view first secon
     let mine = trial_at p grid run views are number base first in
     let its = trial_at p grid run views are (number + 1) view second in
     tells mine.trial its.trial base view mine.is its.is (each number mine.trial its.trial mine.there its.there)
+
+-- ---- views that are read
+
+-- the dies of a view are as many as the cells
+pub many_dies : (p : Netlist) (grid : Slots) (run : ShownRun) (views : List View) → AreViews p grid run views → (number : ℕ) (view : View) (dies : List Die) → number < length run.trials
+    → view ≡ get_or views number view → dies ≡ (get_or views number view).dies.items → length dies ≡ length p.cells
+many_dies p grid run views are number view dies below is value =
+    ap length (value ∙ ap (λ (v : View). v.dies.items) (sym is)) ∙ (read_at p grid run views are number view below is).is.many
+
+-- so many views say of all trials what they say
+pub of_read : (p : Netlist) (grid : Slots) (run : ShownRun) (views : List View) → AreViews p grid run views → (fact : View → View → Type 0) (shown : ShownTrial → ShownTrial → Type 0)
+    → ((base trial : ShownTrial) (first second : View) → IsViewOf p grid base first → IsViewOf p grid trial second → fact first second → shown base trial)
+    → (count : ℕ) → length run.trials ≤ count → OfViews views count fact → OfNext run shown
+of_read p grid run views are fact shown tells count all each =
+    of_trials p grid run views are fact shown tells (λ number base view below first second. each number base view (omega (arith, below, are.many, all)) first second)
+
+-- what all trials say is so at a view that is read
+pub step_at : (p : Netlist) (grid : Slots) (run : ShownRun) (views : List View) → AreViews p grid run views → (fact : View → View → Type 0) (shown : ShownTrial → ShownTrial → Type 0)
+    → ((base trial : ShownTrial) (first second : View) → IsViewOf p grid base first → IsViewOf p grid trial second → shown base trial → fact first second)
+    → OfNext run shown → (number : ℕ) (view d : View) → 1 ≤ number → number < length run.trials → view ≡ get_or views number view → fact (get_or views (number - 1) d) view
+step_at p grid run views are fact shown tells each number view d some below is =
+    let next : number - 1 + 1 ≡ number = omega (arith, some) in
+    let inside : number < length views = omega (arith, below, are.many) in
+    of_views p grid run views are fact shown tells each (number - 1) (get_or views (number - 1) d) view
+    (slice_get-get_or views (number - 1) d (omega (arith, inside)))
+    (ap (slice_get views) next ∙ slice_get_read views (length views) number view refl inside is)
+
+-- a view that is read is the one that stands there
+pub last_is : (views : List View) (number count : ℕ) (view read : View) → number + 1 ≡ count → slice_get views (number + 1) ≡ Some view → read ≡ get_or views count read → read ≡ view
+last_is views number count view read next at is = is ∙ get_or_from_slice_get views count view read (ap (slice_get views) (sym next) ∙ at)
+
+pub base_is : (views : List View) (number count : ℕ) (base read : View) → number + 1 ≡ count → slice_get views number ≡ Some base → get_or views (count - 1) read ≡ base
+base_is views number count base read next at =
+    let same : count - 1 ≡ number = omega (arith, next) in
+    ap (λ n. get_or views n read) same ∙ get_or_from_slice_get views number base read at

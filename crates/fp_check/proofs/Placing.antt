@@ -1,6 +1,6 @@
 -- The placement of the lines of a trial that lists each cell once is the one that it shows.
-use Rattle.std.proofs.Common.{◌≡◌, ℕ, ◌+◌, ◌<◌, true, false, List, length, map, replicate, get_or, slice_get, Option, Some, None, ℤ, pos, refl, sym, ap, subst, ◌∙◌, arith}
-use Rattle.std.specs.Prelude.{All, IfSome, MatchOption}
+use Rattle.std.proofs.Common.{◌≡◌, ℕ, ◌+◌, ◌<◌, true, false, List, length, map, replicate, get_or, slice_get, Option, Some, None, Result, Ok, Err, ℤ, pos, refl, sym, ap, subst, ◌∙◌, arith}
+use Rattle.std.specs.Prelude.{All, IfOk, IfSome, MatchOption}
 use Rattle.std.specs.List.{range_with_len}
 use Rattle.std.proofs.Math.ListN.{get_or-map}
 use Rattle.std.proofs.lemmas.List.{length-map}
@@ -161,3 +161,10 @@ view_is p grid trial layout view is dies_are layout_at = record {
       dies_are ∙ ap (λ (placed : Placed). dies_of (places_of placed)) is.placement_is ∙ sym (dies_placed p trial is.has);
   layout_is = subst (λ (o : Option Layout). MatchOption o (has_rows trial.ending ≡ false) (IsLayoutOf p grid trial)) (sym layout_at) is;
 }
+
+-- a placement that is built of a trial's lanes has its spots
+pub built : {E : Type 0} (p : Netlist) (trial : ShownTrial) (r : Result Placed E) (top bottom : LaneList) (xs : List ℤ) → StandOnceShown p trial → top ≡ lanes_shown trial Top
+    → bottom ≡ lanes_shown trial Bottom → xs ≡ map (λ (spot : Spot). spot.x) (spots_shown p trial) → IfOk r (IsPlacementOf p) → IfOk r (λ placed. placed.top ≡ top)
+    → IfOk r (λ placed. placed.bottom ≡ bottom) → IfOk r (λ placed. map (λ (spot : Spot). spot.x) placed.spots ≡ xs) → IfOk r DoAgree → IfOk r (λ placed. placed.spots ≡ spots_shown p trial)
+built p trial (Err e) top bottom xs once tops bottoms are is top_is bottom_is xs_are agree = tt
+built p trial (Ok placed) top bottom xs once tops bottoms are is top_is bottom_is xs_are agree = spots_built p trial placed top bottom xs once is agree top_is bottom_is tops bottoms xs_are are

@@ -1,17 +1,23 @@
 -- The places of a trial's lines in one list: each line has one, so each cell is listed once exactly where it stands once on the segments.
-use Rattle.std.proofs.Common.{◌≡◌, ℕ, zero, suc, ◌+◌, ◌<◌, List, [], ◌∷◌, ◌++◌, length, map, slice_get, Option, Some, None, refl, sym, ap, subst, ◌∙◌, arith, inl, inr}
-use Rattle.std.specs.Prelude.{◌⊎◌, option_map}
+use Rattle.std.proofs.Common.{◌≡◌, ℕ, zero, suc, ◌+◌, ◌<◌, Bool, false, List, [], ◌∷◌, ◌++◌, length, map, replicate, slice_get, Option, Some, None, Result, Ok, Err, refl, sym, ap, subst, ◌∙◌, arith, inl, inr}
+use Rattle.std.specs.Prelude.{◌⊎◌, ◌↔◌, ◌&&◌, IfOk, IsTrue, option_map}
+use Rattle.std.specs.List.{list_all}
 use Rattle.std.proofs.lemmas.Option.{same_Some, slice_get-map}
 use Rattle.fp_base.specs.declared.ids.CellId.{CellId}
 use Rattle.fp_base.specs.declared.ids.Die.{Die}
 use Rattle.fp_base.specs.declared.ids.Die.TheVariants.{Top, Bottom}
+use Rattle.fp_base.specs.declared.folder.NoMemory.{NoMemory}
+use Rattle.fp_netlist.specs.Netlist.{Netlist}
 use Rattle.fp_place.specs.Placed.{lanes_on, entry_at, StandOnce}
 use Rattle.fp_cert.specs.declared.shown.CellShown.{CellShown}
+use Rattle.fp_cert.specs.declared.shown.Ending.{Ending}
+use Rattle.fp_cert.specs.declared.shown.Ending.TheVariants as endings
 use Rattle.fp_cert.specs.Shown.{ShownRow, ShownTrial, rows_of}
 use Rattle.fp_cert.specs.Standing.{Stand, stands_in, stands_on, stands, lanes_shown}
 use Rattle.fp_cert.specs.StandingLaws.{entry_shown, line_of}
-use Rattle.fp_check.specs.Marks.{cells_in, cells_in_rows, cells_listed}
-use Rattle.fp_check.proofs.Marking.{AreOnce}
+use Rattle.fp_check.specs.Conditions.{StandOnceShown, ListsOnce}
+use Rattle.fp_check.specs.Marks.{marked, cells_in, cells_in_rows, cells_listed, Marks}
+use Rattle.fp_check.proofs.Marking.{AreOnce, shows_once}
 
 -- ---- places in two lists, one after the other
 
@@ -320,3 +326,34 @@ listed_of_stand count trial once = record {
       let entry = entry_from trial is.0 is.1 is.2 (record { 0 = cell }) is.3 in
       (entry.i, entry.at);
 }
+
+-- ---- what a marking of all rows shows
+
+pub stood_once : (p : Netlist) (trial : ShownTrial) (seen : List Bool) (new result : Bool) → Marks new seen (marked (replicate (length p.cells) false) (cells_listed trial))
+    → result ≡ (new && list_all (λ mark. mark) seen) → IsTrue result ↔ StandOnceShown p trial
+stood_once p trial seen new result marks is =
+    let both = shows_once (length p.cells) (cells_listed trial) seen new marks in (
+      λ yes. stand_of_listed (length p.cells) trial (both.0 (sym is ∙ yes)),
+      λ once. is ∙ both.1 (listed_of_stand (length p.cells) trial once),
+    )
+
+-- of a trial that placed its cells
+pub lists_placed : (p : Netlist) (trial : ShownTrial) (ending : Ending) → ((cell : CellId) → ending ≡ endings.NoRow cell → ⊥) → StandOnceShown p trial → ListsOnce p trial ending
+lists_placed p trial endings.Start placed once = once
+lists_placed p trial endings.Better placed once = once
+lists_placed p trial endings.NotBetter placed once = once
+lists_placed p trial (endings.NoRow cell) placed once = absurd (placed cell refl)
+
+pub placed_lists : (p : Netlist) (trial : ShownTrial) (ending : Ending) → ((cell : CellId) → ending ≡ endings.NoRow cell → ⊥) → ListsOnce p trial ending → StandOnceShown p trial
+placed_lists p trial endings.Start placed once = once
+placed_lists p trial endings.Better placed once = once
+placed_lists p trial endings.NotBetter placed once = once
+placed_lists p trial (endings.NoRow cell) placed once = absurd (placed cell refl)
+
+pub listed_either : (p : Netlist) (trial : ShownTrial) (ending : Ending) (r : Result Bool NoMemory) → ending ≡ trial.ending → ((cell : CellId) → ending ≡ endings.NoRow cell → ⊥)
+    → IfOk r (λ b. IsTrue b ↔ StandOnceShown p trial) → IfOk r (λ b. IsTrue b ↔ ListsOnce p trial trial.ending)
+listed_either p trial ending (Err e) is placed both = tt
+listed_either p trial ending (Ok b) is placed both = (
+  λ yes. subst (ListsOnce p trial) is (lists_placed p trial ending placed (both.0 yes)),
+  λ once. both.1 (placed_lists p trial ending placed (subst (ListsOnce p trial) (sym is) once)),
+)

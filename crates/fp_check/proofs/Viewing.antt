@@ -1,11 +1,11 @@
 -- What a trial shows by cell, as it is put together: its lanes, its dies, its terminals and the placement of its lines.
-use Rattle.std.proofs.Common.{◌≡◌, ◌≢◌, ℕ, zero, suc, ◌+◌, ◌<◌, ◌≤◌, Bool, true, false, cond, List, [], ◌∷◌, ◌++◌, length, map, take, drop, set, get_or, replicate, slice_get, Option, Some, None, ℤ, pos, refl, sym, ap, subst, ◌∙◌, arith}
-use Rattle.std.specs.Prelude.{◌==◌, ◌||◌, nat_eq, All, IfSome, fold, find, if◌then◌else◌}
+use Rattle.std.proofs.Common.{◌≡◌, ◌≢◌, ℕ, zero, suc, ◌+◌, ◌-◌, ◌<◌, ◌≤◌, Bool, true, false, cond, List, [], ◌∷◌, ◌++◌, length, map, take, drop, set, get_or, replicate, slice_get, Option, Some, None, ℤ, pos, refl, sym, ap, subst, ◌∙◌, append_assoc, arith}
+use Rattle.std.specs.Prelude.{◌==◌, ◌||◌, nat_eq, All, IfSome, fold, find, MatchOption, if◌then◌else◌}
 use Rattle.std.specs.List.{list_any, range_with_len}
 use Rattle.std.proofs.Math.ListN.{get_or-map as get_or_of_map}
 use Rattle.std.proofs.lemmas.Bool.{false≢true}
 use Rattle.std.proofs.lemmas.Bool.Decides.{nat_tests}
-use Rattle.std.proofs.lemmas.List.{length-map, length-set, get_or-map, get_or-set_same, get_or-set_other, get_or-replicate, ext_get_or}
+use Rattle.std.proofs.lemmas.List.{length-map, length-set, get_or-map, get_or-set_same, get_or-set_other, get_or-replicate, ext_get_or, take_more}
 use Rattle.std.proofs.lemmas.List.FromFn.{fill_by_all, get_or-map-range_with_len, length-map-range_with_len}
 use Rattle.std.proofs.lemmas.Option.{same_Some, slice_get_within, slice_get-get_or, get_or_from_slice_get}
 use Rattle.fp_base.specs.declared.ids.CellId.{CellId}
@@ -27,8 +27,9 @@ use Rattle.fp_cert.specs.OfProblem.{IsCellOf, IsRowOf, IsCutOf}
 use Rattle.fp_cert.specs.Shown.{ShownRow, ShownTrial, ShownRun, rows_of}
 use Rattle.fp_cert.specs.Standing.{Stand, stand_of, spot_by, target_by, terminal_by, listed_die, lane_shown, lanes_shown, spots_shown, targets_shown, places_shown, terminals_shown, placed_shown, dies_shown}
 use Rattle.fp_cert.specs.StandingLaws.{ShowsEach, line_of, stand_there, entry_shown, spots_are}
+use Rattle.fp_check.specs.declared.views.Layout.{Layout}
 use Rattle.fp_check.specs.declared.views.View.{View}
-use Rattle.fp_check.specs.Views.{with_tops, with_terminals, IsViewOf, AreViews}
+use Rattle.fp_check.specs.Views.{with_tops, with_terminals, IsLayoutOf, IsViewOf, AreViews}
 
 -- ---- views, one after the other
 
@@ -231,3 +232,78 @@ centres_with grid (cut ∷ cuts) terminals in_range within each k o at =
     set_at (first ∷ list) zero x is each (suc j) y there = each (suc j) y there
     set_at (first ∷ list) (suc n) x is each zero y there = each 0 y there
     set_at (first ∷ list) (suc n) x is each (suc j) y there = set_at list n x is (λ i z at. each (suc i) z at) j y there
+
+-- ---- a line of a loop more
+
+pub drop_here : {A : Type 0} (list : List A) (n : ℕ) (d : A) → n < length list → drop n list ≡ get_or list n d ∷ drop (n + 1) list
+drop_here [] n d below = absurd (omega (arith, below))
+drop_here (x ∷ list) zero d below = refl
+drop_here (x ∷ list) (suc n) d below =
+    let next : suc (n + 1) ≡ suc n + 1 = omega arith in
+    drop_here list n d (omega (arith, below)) ∙ ap (λ k. get_or list n d ∷ drop k (x ∷ list)) next
+
+pub drop_past : {A : Type 0} (list : List A) (n : ℕ) → length list ≤ n → drop n list ≡ []
+drop_past [] zero below = refl
+drop_past [] (suc n) below = refl
+drop_past (x ∷ list) zero below = absurd (omega (arith, below))
+drop_past (x ∷ list) (suc n) below = drop_past list n (omega (arith, below))
+
+-- no terminal is set at first,
+pub none_set : (grid : Slots) (cuts : List CutShown) (placed : Placed) (k : ℕ) → length cuts ≤ k → placed ≡ record placed { terminals = with_terminals grid (drop k cuts) placed.terminals }
+none_set grid cuts placed k past =
+    ap (λ terminals. record placed { terminals = terminals }) (sym (ap (λ these. with_terminals grid these placed.terminals) (drop_past cuts k past) ∙ no_cuts grid placed.terminals))
+
+-- and then one more, from the last line on
+pub one_set : (grid : Slots) (cuts : List CutShown) (old now then_set : Placed) (n k : ℕ) (d : CutShown) (centre : Point) → k + (n + 1) ≡ length cuts
+    → ((j : ℕ) → j + n ≡ length cuts → now ≡ record old { terminals = with_terminals grid (drop j cuts) old.terminals })
+    → centre ≡ centre_of grid (get_or cuts (length cuts - 1 - n) d).slot.0
+    → then_set ≡ record now { terminals = set now.terminals (get_or cuts (length cuts - 1 - n) d).net.0 (Some centre) }
+    → then_set ≡ record old { terminals = with_terminals grid (drop k cuts) old.terminals }
+one_set grid cuts old now then_set n k d centre many each centre_is is =
+    let at : length cuts - 1 - n ≡ k = omega (arith, many) in
+    let before = each (k + 1) (omega (arith, many)) in
+    let slot : centre ≡ centre_of grid (get_or cuts k d).slot.0 = centre_is ∙ ap (λ place. centre_of grid (get_or cuts place d).slot.0) at in
+    let all : with_terminals grid (get_or cuts k d ∷ drop (k + 1) cuts) old.terminals ≡ with_terminals grid (drop k cuts) old.terminals =
+    ap (λ these. with_terminals grid these old.terminals) (sym (drop_here cuts k d (omega (arith, many)))) in
+    is
+    ∙ (λ i. record (before i) { terminals = set (before i).terminals (get_or cuts (at i) d).net.0 (Some (slot i)) })
+    ∙ ap (λ terminals. record old { terminals = terminals }) (sym (cut_before grid (get_or cuts k d) (drop (k + 1) cuts) old.terminals) ∙ all)
+
+-- a cell more at the end of a lane
+set_again : {A : Type 0} (list : List A) (n : ℕ) (x y : A) → set (set list n x) n y ≡ set list n y
+set_again [] n x y = refl
+set_again (first ∷ list) zero x y = refl
+set_again (first ∷ list) (suc n) x y = ap (λ rest. first ∷ rest) (set_again list n x y)
+
+cells_more : (cells : List CellShown) (k : ℕ) (d : CellShown) → k < length cells
+    → map (λ (cell : CellShown). cell.cell) (take k cells) ++ (get_or cells k d).cell ∷ [] ≡ map (λ (cell : CellShown). cell.cell) (take (k + 1) cells)
+cells_more cells k d below = sym (ap (map (λ (cell : CellShown). cell.cell)) (take_more cells k d below) ∙ after (take k cells) (get_or cells k d))
+  where
+    after : (first : List CellShown) (last : CellShown) → map (λ (cell : CellShown). cell.cell) (first ++ last ∷ []) ≡ map (λ (cell : CellShown). cell.cell) first ++ last.cell ∷ []
+    after [] last = refl
+    after (cell ∷ first) last = ap (λ rest. cell.cell ∷ rest) (after first last)
+
+pub lane_more : (old now pushed : LaneList) (segment seg : ℕ) (cells : List CellShown) (k : ℕ) (d : CellShown) → segment < length old → k < length cells → seg ≡ segment
+    → now ≡ set old segment (get_or old segment [] ++ map (λ (cell : CellShown). cell.cell) (take k cells))
+    → pushed ≡ set now seg (get_or now seg [] ++ (get_or cells k d).cell ∷ [])
+    → pushed ≡ set old segment (get_or old segment [] ++ map (λ (cell : CellShown). cell.cell) (take (k + 1) cells))
+lane_more old now pushed segment seg cells k d within below seg_is now_is is =
+    is
+    ∙ (λ i. set (now_is i) (seg_is i) (get_or (now_is i) (seg_is i) [] ++ (get_or cells k d).cell ∷ []))
+    ∙ set_again old segment (get_or old segment [] ++ map (λ (cell : CellShown). cell.cell) (take k cells)) _
+    ∙ ap (set old segment) (
+      ap (λ lane. lane ++ (get_or cells k d).cell ∷ []) (get_or-set_same old segment (get_or old segment [] ++ map (λ (cell : CellShown). cell.cell) (take k cells)) [] within)
+      ∙ append_assoc (get_or old segment []) (map (λ (cell : CellShown). cell.cell) (take k cells)) ((get_or cells k d).cell ∷ [])
+      ∙ ap (λ lane. get_or old segment [] ++ lane) (cells_more cells k d below))
+
+-- the view of a trial that lists the cells of the top die alone
+pub rowless_is : (p : Netlist) (grid : Slots) (trial : ShownTrial) (view : View) (count : ℕ) (first : List Die) (tops : List CellId) → has_rows trial.ending ≡ false
+    → first ≡ replicate count Bottom → count ≡ length p.cells → tops ≡ trial.top_cells → view.dies.items ≡ with_tops first tops → view.layout ≡ None → IsViewOf p grid trial view
+rowless_is p grid trial view count first tops rowless bottoms many tops_are is none = record {
+  many = ap length all ∙ length-with_tops (replicate (length p.cells) Bottom) trial.top_cells ∙ long (length p.cells) Bottom;
+  dies_are = dies_listed p trial view.dies.items rowless all;
+  layout_is = subst (λ (o : Option Layout). MatchOption o (has_rows trial.ending ≡ false) (IsLayoutOf p grid trial)) (sym none) rowless;
+}
+  where
+    all : view.dies.items ≡ with_tops (replicate (length p.cells) Bottom) trial.top_cells
+    all = is ∙ (λ i. with_tops (bottoms i) (tops_are i)) ∙ ap (λ n. with_tops (replicate n Bottom) trial.top_cells) many

@@ -4,7 +4,7 @@ ghost use Rattle.std.specs.Prelude.{◌≡◌, ◌↔◌, ◌<◌, ◌∷◌, []
 ghost use Rattle.std.specs.List.{list_all, IsDistinct};
 ghost use Rattle.fp_cert.specs.OfProblem.{IsTrialOf, IsRunOf};
 ghost use Rattle.fp_check.specs.Conditions.{OfEach, StandOnceShown, ListsOnce};
-ghost use Rattle.fp_check.specs.Marks.{marked, cells_in, cells_in_rows, Marks};
+ghost use Rattle.fp_check.specs.Marks.{marked, cells_in, cells_in_rows, cells_listed, Marks};
 
 use fp_base::{CellId, Die, NoMemory};
 use fp_cert::{CellShown, Ending, RowShown, Run, Trial};
@@ -40,8 +40,10 @@ fn stand_once(alloc: Global, problem: &Problem, trial: &Trial) -> Result<bool, N
     ensures { IfOk result (λ b. IsTrue b ↔ StandOnceShown problem.now trial.now) }
 {
     let mut seen = vec![in alloc; false; problem.cells() as usize]?;
-    let once = mark_rows(trial.rows(Die::Top), &mut seen) && mark_rows(trial.rows(Die::Bottom), &mut seen);
-    Ok(once && are_all_marked(&seen))
+    if !mark_both(trial, &mut seen) {
+        return Ok(false);
+    }
+    Ok(are_all_marked(&seen))
 }
 
 /// Whether no cell of a list comes twice.
@@ -56,6 +58,16 @@ fn are_apart(alloc: Global, problem: &Problem, cells: &[CellId]) -> Result<bool,
         }
     }
     Ok(true)
+}
+
+/// Marks the cells of the segments of both dies.
+fn mark_both(trial: &Trial, seen: &mut Vec<bool>) -> bool
+    ensures { Marks result seen.new.items (marked seen.old.items (cells_listed trial.now)) }
+{
+    if !mark_rows(trial.rows(Die::Top), seen) {
+        return false;
+    }
+    mark_rows(trial.rows(Die::Bottom), seen)
 }
 
 /// Marks the cells of rows; false where one is marked already or has no place.
