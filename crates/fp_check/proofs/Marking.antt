@@ -321,11 +321,11 @@ unfolding marked
 had_mark seen cell is = ap (λ b. cond b None (Some (set seen cell true))) is
 
 -- a marking that goes on, and one that stops
-goes : (new : Bool) (now : List Bool) (wanted : Option (List Bool)) → Marks new now wanted → new ≡ true → wanted ≡ Some now
+pub goes : (new : Bool) (now : List Bool) (wanted : Option (List Bool)) → Marks new now wanted → new ≡ true → wanted ≡ Some now
 goes true now wanted is new = sym is
 goes false now wanted is new = absurd (false≢true new)
 
-stops : (new : Bool) (now : List Bool) (wanted : Option (List Bool)) → Marks new now wanted → new ≡ false → wanted ≡ None
+pub stops : (new : Bool) (now : List Bool) (wanted : Option (List Bool)) → Marks new now wanted → new ≡ false → wanted ≡ None
 stops true now wanted is new = absurd (false≢true (sym new))
 stops false now wanted is new = sym is
 

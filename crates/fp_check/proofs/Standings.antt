@@ -1,5 +1,5 @@
 -- The places of a trial's lines in one list: each line has one, so each cell is listed once exactly where it stands once on the segments.
-use Rattle.std.proofs.Common.{◌≡◌, ℕ, zero, suc, ◌+◌, ◌<◌, Bool, false, List, [], ◌∷◌, ◌++◌, length, map, replicate, slice_get, Option, Some, None, Result, Ok, Err, refl, sym, ap, subst, ◌∙◌, arith, inl, inr}
+use Rattle.std.proofs.Common.{◌≡◌, ℕ, zero, suc, ◌+◌, ◌<◌, Bool, true, false, List, [], ◌∷◌, ◌++◌, length, map, replicate, slice_get, Option, Some, None, Result, Ok, Err, refl, sym, ap, subst, ◌∙◌, arith, inl, inr}
 use Rattle.std.specs.Prelude.{◌⊎◌, ◌↔◌, ◌&&◌, IfOk, IsTrue, option_map}
 use Rattle.std.specs.List.{list_all}
 use Rattle.std.proofs.lemmas.Option.{same_Some, slice_get-map}
@@ -17,7 +17,7 @@ use Rattle.fp_cert.specs.Standing.{Stand, stands_in, stands_on, stands, lanes_sh
 use Rattle.fp_cert.specs.StandingLaws.{entry_shown, line_of}
 use Rattle.fp_check.specs.Conditions.{StandOnceShown, ListsOnce}
 use Rattle.fp_check.specs.Marks.{marked, cells_in, cells_in_rows, cells_listed, Marks}
-use Rattle.fp_check.proofs.Marking.{AreOnce, shows_once}
+use Rattle.fp_check.proofs.Marking.{AreOnce, front_none, after_front, goes, stops, shows_once}
 
 -- ---- places in two lists, one after the other
 
@@ -357,3 +357,32 @@ listed_either p trial ending (Ok b) is placed both = (
   λ yes. subst (ListsOnce p trial) is (lists_placed p trial ending placed (both.0 yes)),
   λ once. both.1 (placed_lists p trial ending placed (subst (ListsOnce p trial) (sym is) once)),
 )
+
+pub top_stops : (trial : ShownTrial) (seen now : List Bool) (rows : List ShownRow) (new : Bool) → rows ≡ rows_of trial Top → Marks new now (marked seen (cells_in_rows rows)) → new ≡ false
+    → marked seen (cells_listed trial) ≡ None
+top_stops trial seen now rows new are marks is =
+    front_none seen (cells_in_rows trial.top) (cells_in_rows trial.bottom) (ap (λ (list : List ShownRow). marked seen (cells_in_rows list)) (sym are) ∙ stops new now (marked seen (cells_in_rows rows)) marks is)
+
+pub both_marked : (trial : ShownTrial) (seen held now : List Bool) (tops bottoms : List ShownRow) (first second : Bool) → tops ≡ rows_of trial Top → bottoms ≡ rows_of trial Bottom
+    → Marks first held (marked seen (cells_in_rows tops)) → first ≡ true → Marks second now (marked held (cells_in_rows bottoms)) → Marks second now (marked seen (cells_listed trial))
+both_marked trial seen held now tops bottoms first second top_are bottom_are first_marks is second_marks =
+    let front : marked seen (cells_in_rows trial.top) ≡ Some held =
+    ap (λ (list : List ShownRow). marked seen (cells_in_rows list)) (sym top_are) ∙ goes first held (marked seen (cells_in_rows tops)) first_marks is in
+    second_marks
+    ∙ ap (λ (list : List ShownRow). marked held (cells_in_rows list)) bottom_are
+    ∙ sym (after_front seen held (cells_in_rows trial.top) (cells_in_rows trial.bottom) front)
+
+-- a marking of all rows that began without marks
+from_none : (p : Netlist) (trial : ShownTrial) (first seen : List Bool) (count : ℕ) (new : Bool) → first ≡ replicate count false → count ≡ length p.cells
+    → Marks new seen (marked first (cells_listed trial)) → Marks new seen (marked (replicate (length p.cells) false) (cells_listed trial))
+from_none p trial first seen count new none many marks = marks ∙ ap (λ marks. marked marks (cells_listed trial)) (none ∙ ap (λ n. replicate n false) many)
+
+pub not_stood : (p : Netlist) (trial : ShownTrial) (first seen : List Bool) (count : ℕ) (new : Bool) → first ≡ replicate count false → count ≡ length p.cells
+    → Marks new seen (marked first (cells_listed trial)) → new ≡ false → IsTrue false ↔ StandOnceShown p trial
+not_stood p trial first seen count new none many marks is =
+    stood_once p trial seen new false (from_none p trial first seen count new none many marks) (sym (ap (λ b. b && list_all (λ mark. mark) seen) is))
+
+pub all_stood : (p : Netlist) (trial : ShownTrial) (first seen : List Bool) (count : ℕ) (new result : Bool) → first ≡ replicate count false → count ≡ length p.cells
+    → Marks new seen (marked first (cells_listed trial)) → new ≡ true → result ≡ list_all (λ mark. mark) seen → IsTrue result ↔ StandOnceShown p trial
+all_stood p trial first seen count new result none many marks is all =
+    stood_once p trial seen new result (from_none p trial first seen count new none many marks) (all ∙ sym (ap (λ b. b && list_all (λ mark. mark) seen) is))

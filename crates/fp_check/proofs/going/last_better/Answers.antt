@@ -7,7 +7,7 @@ use Rattle.fp_check.proofs.going.last_better.Goals.{then-is_better, else-is_bett
 pub loop-number-preserved : goal.loop-number-preserved
 loop-number-preserved c =
     let ending = sym (ap is_better c.ending.ensures) ∙ sym c.is_better.ensures.is in
-    let next = elim c.if-is_better.branch [
+    let next : (if is_better c.index-trials-number.result.ending then c.loop-number.number else c.loop-number.last) ≡ c.if-is_better.last = elim c.if-is_better.branch [
         then-is_better w ↦ ap (λ b. cond b c.loop-number.number c.loop-number.last) (ending ∙ w.if-is_better.true) ∙ sym w.last-is
       | else-is_better w ↦ ap (λ b. cond b c.loop-number.number c.loop-number.last) (ending ∙ w.if-is_better.false) ∙ sym w.last-is
     ] in
