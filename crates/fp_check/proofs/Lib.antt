@@ -5,3 +5,10 @@ mod Pairs
 mod Pickings
 mod Startings
 mod Tryings
+mod Betters
+mod Marking
+mod Nexts
+mod Placing
+mod Settling
+mod Standings
+mod Viewing

@@ -57,9 +57,16 @@ pub fn are_settled(
 {
     let settled = settle(alloc, problem, &views[0].dies)?;
     for number in 1..run.trials().len() {
-        if views[number].dies.as_slice() != settled.as_slice() {
+        if !are_same(&views[number].dies, &settled) {
             return Ok(false);
         }
     }
     Ok(true)
+}
+
+/// Whether two lists of dies are one.
+fn are_same(dies: &[Die], others: &[Die]) -> bool
+    ensures { IsTrue result ↔ (dies.now ≡ others.now) }
+{
+    dies == others
 }

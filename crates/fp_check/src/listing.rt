@@ -1,10 +1,10 @@
 //! Condition 3: each cell is listed exactly once on the segments of both dies; or, where there was no row for a cell, no cell is listed twice.
 
-ghost use Rattle.std.specs.Prelude.{◌≡◌, ◌↔◌, ◌<◌, ℕ, All, IfOk, IsTrue, length, map, nat_eq, list_all};
-ghost use Rattle.std.specs.List.{IsDistinct};
+ghost use Rattle.std.specs.Prelude.{◌≡◌, ◌↔◌, ◌<◌, ◌∷◌, [], ℕ, All, IfOk, IsTrue, length, map, get_or, nat_eq, true};
+ghost use Rattle.std.specs.List.{list_all, IsDistinct};
 ghost use Rattle.fp_cert.specs.OfProblem.{IsTrialOf, IsRunOf};
 ghost use Rattle.fp_check.specs.Conditions.{OfEach, StandOnceShown, ListsOnce};
-ghost use Rattle.fp_check.specs.Marks.{marked, cells_in, cells_in_rows, Marks};
+ghost use Rattle.fp_check.specs.Marks.{marked, cells_in, cells_in_rows, cells_listed, Marks};
 
 use fp_base::{CellId, Die, NoMemory};
 use fp_cert::{CellShown, Ending, RowShown, Run, Trial};
@@ -40,8 +40,10 @@ fn stand_once(alloc: Global, problem: &Problem, trial: &Trial) -> Result<bool, N
     ensures { IfOk result (λ b. IsTrue b ↔ StandOnceShown problem.now trial.now) }
 {
     let mut seen = vec![in alloc; false; problem.cells() as usize]?;
-    let once = mark_rows(trial.rows(Die::Top), &mut seen) && mark_rows(trial.rows(Die::Bottom), &mut seen);
-    Ok(once && are_all_marked(&seen))
+    if !mark_both(trial, &mut seen) {
+        return Ok(false);
+    }
+    Ok(are_all_marked(&seen))
 }
 
 /// Whether no cell of a list comes twice.
@@ -56,6 +58,16 @@ fn are_apart(alloc: Global, problem: &Problem, cells: &[CellId]) -> Result<bool,
         }
     }
     Ok(true)
+}
+
+/// Marks the cells of the segments of both dies.
+fn mark_both(trial: &Trial, seen: &mut Vec<bool>) -> bool
+    ensures { Marks result seen.new.items (marked seen.old.items (cells_listed trial.now)) }
+{
+    if !mark_rows(trial.rows(Die::Top), seen) {
+        return false;
+    }
+    mark_rows(trial.rows(Die::Bottom), seen)
 }
 
 /// Marks the cells of rows; false where one is marked already or has no place.
@@ -86,12 +98,19 @@ fn mark_cells(lines: &[CellShown], seen: &mut Vec<bool>) -> bool
 fn mark(cell: CellId, seen: &mut Vec<bool>) -> bool
     ensures { Marks result seen.new.items (marked seen.old.items (cell.0 ∷ [])) }
 {
-    let place = cell.0 as usize;
-    if place >= seen.len() || seen[place] {
+    if is_marked(cell, seen.as_slice()) {
         return false;
     }
-    seen[place] = true;
+    seen[cell.0 as usize] = true;
     true
+}
+
+/// Whether a cell is marked, or has no place.
+fn is_marked(cell: CellId, seen: &[bool]) -> bool
+    ensures { result ≡ get_or seen.now cell.0 true }
+{
+    let place = cell.0 as usize;
+    place >= seen.len() || seen[place]
 }
 
 /// Whether all are marked.

@@ -155,6 +155,7 @@ fn layout_of(
     requires once { StandOnceShown problem.now trial.now }
     ensures { IfOk result (IsLayoutOf problem.now grid.now trial.now) }
 {
+    let _nets = problem.nets();
     let targets = targets_of(alloc, problem, trial)?;
     let mut placement = placement_of(alloc, problem, trial)?;
     set_terminals(grid, trial.cuts(), &mut placement);
@@ -173,6 +174,7 @@ fn placement_of(alloc: Global, problem: &Problem, trial: &Trial) -> Result<Place
     ensures of_problem { IfOk result (IsPlacementOf problem.now) }
     ensures agree { IfOk result DoAgree }
 {
+    let _cells = problem.cells();
     let xs = xs_of(alloc, problem, trial)?;
     let top = lanes_of::<Top>(alloc, trial.rows(Die::Top))?;
     let bottom = lanes_of::<Bottom>(alloc, trial.rows(Die::Bottom))?;
@@ -201,7 +203,7 @@ fn fill_lanes<S: Side>(rows: &[RowShown], lanes: &mut Lanes<S>) -> Result<(), No
     ensures { OnOk result (lanes.new ≡ map lane_shown rows.now) }
 {
     for number in 0..rows.len() {
-        fill_lane(rows[number].cells(), SegId::new(number as u32), lanes)?;
+        fill_lane(rows[number].cells(), number as u32, lanes)?;
     }
     Ok(())
 }
@@ -209,14 +211,14 @@ fn fill_lanes<S: Side>(rows: &[RowShown], lanes: &mut Lanes<S>) -> Result<(), No
 /// Adds the cells of a row at the end of a segment's lane.
 fn fill_lane<S: Side>(
     cells: &[CellShown],
-    segment: SegId<S>,
+    segment: u32,
     lanes: &mut Lanes<S>,
 ) -> Result<(), NoMemory>
     requires { segment < length lanes.old }
     ensures { OnOk result (lanes.new ≡ set lanes.old segment (get_or lanes.old segment [] ++ map (λ cell. cell.cell) cells.now)) }
 {
     for cell in cells {
-        lanes.push(segment, cell.cell)?;
+        lanes.push(SegId::new(segment), cell.cell)?;
     }
     Ok(())
 }
@@ -226,7 +228,8 @@ fn set_terminals(grid: &Grid, cuts: &[CutShown], placement: &mut Placement)
     requires cuts { All (λ cut. (cut.net.0 < length placement.old.terminals) × (cut.slot.0 < slot_count grid.now)) cuts.now }
     ensures { placement.new ≡ record placement.old { terminals = with_terminals grid.now cuts.now placement.old.terminals } }
 {
-    for cut in cuts.iter().rev() {
+    for number in 0..cuts.len() {
+        let cut = cuts[cuts.len() - 1 - number];
         placement.set_terminal(cut.net, Some(grid.centre(cut.slot)));
     }
 }
