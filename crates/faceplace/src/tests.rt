@@ -163,7 +163,11 @@ pub(crate) fn with_changes(
 }
 
 /// Adds the words of a command line.
-pub(crate) fn push_words(alloc: Global, words: &mut Vec<String>, line: &str) -> Result<(), AllocError> {
+pub(crate) fn push_words(
+    alloc: Global,
+    words: &mut Vec<String>,
+    line: &str,
+) -> Result<(), AllocError> {
     for word in line.split_whitespace() {
         words.push(String::from_str(alloc, word)?)?;
     }

@@ -118,22 +118,33 @@ fn a_cost_that_the_certificate_lacks_is_told(rt: HostRuntime) -> Result<(), Fail
 #[test]
 fn tells_the_first_fault_of_a_certificate(rt: HostRuntime) -> Result<(), Fail> {
     let limit = ("Limit 3", "Limit 0");
-    expect_small_check(&rt, rt.alloc(), &UNCHANGED, SAME, limit, 3, "input c 22 range\n")
+    expect_small_check(
+        &rt,
+        rt.alloc(),
+        &UNCHANGED,
+        SAME,
+        limit,
+        3,
+        "input c 22 range\n",
+    )
 }
 
 #[test]
 fn dies_that_are_not_settled_are_told(rt: HostRuntime) -> Result<(), Fail> {
     let input = with_changes(rt.alloc(), SMALL, NARROW.as_slice())?;
-    expect_check(&rt, rt.alloc(), input.as_str(), PLACED, UNSETTLED_CERT, 5, "no 7\n")
+    expect_check(
+        &rt,
+        rt.alloc(),
+        input.as_str(),
+        PLACED,
+        UNSETTLED_CERT,
+        5,
+        "no 7\n",
+    )
 }
 
 /// What a placement of a text with its lines changed wrote is found to be right.
-fn expect_right(
-    rt: &impl Abort,
-    alloc: Global,
-    text: &str,
-    changes: &Changes,
-) -> Result<(), Fail> {
+fn expect_right(rt: &impl Abort, alloc: Global, text: &str, changes: &Changes) -> Result<(), Fail> {
     let input = with_changes(alloc, text, changes.as_slice())?;
     let trial = Trial::new("place a o c", Some(input.as_str()), None);
     let mut end = run_line(alloc, &trial)?;

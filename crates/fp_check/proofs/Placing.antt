@@ -101,8 +101,8 @@ spots_built p trial placed top bottom xs once is agree top_is bottom_is tops bot
     (subst (λ (lanes : LaneList). StandOnce (length p.cells) lanes (lanes_shown trial Bottom)) top_shown once) in
     sym (spots_are p trial placed (targets_shown p trial) is agree placed_once top_shown bottom_shown (λ die segment rank row shown there at. (
       sym (x_shown p trial once die segment rank row shown there at)
-      ∙ ap (λ (list : List ℤ). get_or list shown.cell.0 (pos 0)) (sym (xs_are ∙ are))
-      ∙ get_or-map (λ (spot : Spot). spot.x) placed.spots shown.cell.0 no_spot,
+          ∙ ap (λ (list : List ℤ). get_or list shown.cell.0 (pos 0)) (sym (xs_are ∙ are))
+          ∙ get_or-map (λ (spot : Spot). spot.x) placed.spots shown.cell.0 no_spot,
       target_at p trial once die segment rank row shown there at,
     )))
 

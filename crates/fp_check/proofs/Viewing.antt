@@ -292,9 +292,9 @@ lane_more old now pushed segment seg cells k d within below seg_is now_is is =
     ∙ (λ i. set (now_is i) (seg_is i) (get_or (now_is i) (seg_is i) [] ++ (get_or cells k d).cell ∷ []))
     ∙ set_again old segment (get_or old segment [] ++ map (λ (cell : CellShown). cell.cell) (take k cells)) _
     ∙ ap (set old segment) (
-      ap (λ lane. lane ++ (get_or cells k d).cell ∷ []) (get_or-set_same old segment (get_or old segment [] ++ map (λ (cell : CellShown). cell.cell) (take k cells)) [] within)
-      ∙ append_assoc (get_or old segment []) (map (λ (cell : CellShown). cell.cell) (take k cells)) ((get_or cells k d).cell ∷ [])
-      ∙ ap (λ lane. get_or old segment [] ++ lane) (cells_more cells k d below))
+    ap (λ lane. lane ++ (get_or cells k d).cell ∷ []) (get_or-set_same old segment (get_or old segment [] ++ map (λ (cell : CellShown). cell.cell) (take k cells)) [] within)
+    ∙ append_assoc (get_or old segment []) (map (λ (cell : CellShown). cell.cell) (take k cells)) ((get_or cells k d).cell ∷ [])
+    ∙ ap (λ lane. get_or old segment [] ++ lane) (cells_more cells k d below))
 
 -- the view of a trial that lists the cells of the top die alone
 pub rowless_is : (p : Netlist) (grid : Slots) (trial : ShownTrial) (view : View) (count : ℕ) (first : List Die) (tops : List CellId) → has_rows trial.ending ≡ false

@@ -15,6 +15,3 @@ mod start;
 mod views;
 
 pub use checking::check;
-
-#[cfg(test)]
-mod tests;

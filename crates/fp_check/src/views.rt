@@ -78,12 +78,7 @@ fn fill_views(
 }
 
 /// What a trial shows.
-fn view_of(
-    alloc: Global,
-    problem: &Problem,
-    grid: &Grid,
-    trial: &Trial,
-) -> Result<View, NoMemory>
+fn view_of(alloc: Global, problem: &Problem, grid: &Grid, trial: &Trial) -> Result<View, NoMemory>
     requires grid { IsGrid problem.now.plan.frame problem.now.plan.terminal grid.now }
     requires of_problem { IsTrialOf problem.now (slot_count grid.now) trial.now }
     requires once { ListsOnce problem.now trial.now trial.now.ending }
