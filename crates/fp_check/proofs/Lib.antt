@@ -12,3 +12,4 @@ mod Placing
 mod Settling
 mod Standings
 mod Viewing
+mod Driving

@@ -76,10 +76,15 @@ hold_on p grid drawing run condition before here other below = by (cases_order (
     by (inr (inl less)) = before other less
     by (inr (inr more)) = absurd (omega (arith, below, more))
 
--- where they hold up to the last, all hold
+-- where they hold up to the last, each holds,
+pub each_holds : (p : Netlist) (grid : Slots) (drawing : Drawing) (run : ShownRun) → ((condition : Condition) → number_of condition < 17 → Holds p grid drawing run condition)
+    → (condition : Condition) → Holds p grid drawing run condition
+each_holds p grid drawing run hold condition = hold condition (in_range condition).to
+
+-- and so all of them
 pub all_hold : (p : Netlist) (grid : Slots) (drawing : Drawing) (run : ShownRun) → IsGrid p.plan.frame p.plan.terminal grid
     → ((condition : Condition) → number_of condition < 17 → Holds p grid drawing run condition) → CertOk p drawing run
-all_hold p grid drawing run is_grid hold = (grid, is_grid, λ condition. hold condition (in_range condition).to)
+all_hold p grid drawing run is_grid hold = (grid, is_grid, each_holds p grid drawing run hold)
 
 -- and where one does not, it is the first that is false
 pub first_false : (p : Netlist) (grid : Slots) (drawing : Drawing) (run : ShownRun) (condition : Condition) (number : ℕ) → IsGrid p.plan.frame p.plan.terminal grid

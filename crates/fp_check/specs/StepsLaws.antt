@@ -181,11 +181,13 @@ seed_dies p grid trial from many =
     long : length (dies_of (places_shown p trial)) ≡ length p.cells
     long = length-map (places_shown p trial) (λ place. place.die) ∙ length-map (spots_shown p trial) place_of ∙ length-spots_shown p trial
 
-pub start_keeps_rules : (p : Netlist) (grid : Slots) (trial : ShownTrial) → IsStart p grid trial → KeepRules p (dies_shown p trial)
-start_keeps_rules p grid trial start =
-    let from = start.from_seed in
+pub from_seed_keeps_rules : (p : Netlist) (grid : Slots) (trial : ShownTrial) → has_rows trial.ending ≡ true → IsFromSeed p grid trial → KeepRules p (dies_shown p trial)
+from_seed_keeps_rules p grid trial has from =
     let rules = seed_keeps_rules p (slot_count grid) from.first from.seats from.seed in
-    subst (KeepRules p) (sym (dies_placed p trial (ap has_rows start.ending_is) ∙ seed_dies p grid trial from rules.cells)) rules
+    subst (KeepRules p) (sym (dies_placed p trial has ∙ seed_dies p grid trial from rules.cells)) rules
+
+pub start_keeps_rules : (p : Netlist) (grid : Slots) (trial : ShownTrial) → IsStart p grid trial → KeepRules p (dies_shown p trial)
+start_keeps_rules p grid trial start = from_seed_keeps_rules p grid trial (ap has_rows start.ending_is) start.from_seed
 
 -- cells that stand in order, each where its line shows it, are feasible positions
 between_feasible : (p : Netlist) (die : Die) (places : List Place) (cells : List CellShown) (from to : ℤ)

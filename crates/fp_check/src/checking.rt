@@ -46,6 +46,7 @@ pub fn check(
     // What the conditions show, of any drawing and run of a problem: the drawing is legal and is the answer of the problem's run of trials.
     ensures sound { CertOk problem.now drawn.now run.now → Shows problem.now drawn.now run.now }
 {
+    let _cells = problem.cells();
     let grid = Grid::of(problem.dies());
     match seed(alloc, problem) {
         Ok(seeded) => {
