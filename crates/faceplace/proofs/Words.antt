@@ -38,19 +38,18 @@ differ : (a b : List ℕ) → not (bytes_eq a b) ≡ true → a ≢ b
 differ a b is same = by (bytes_eq a b) ((bytes_eq-Decides a b).1 same) is
   where
     by : (t : Bool) → t ≡ true → not t ≡ true → ⊥
-    by true is no = absurd (let false_is : false ≡ true = no in cc)
-    by false is no = absurd cc
+    by true is same = absurd (let untrue : false ≡ true = same in cc)
+    by false is same = absurd (let untrue : false ≡ true = is in cc)
 
 placing : (input output cert : List ℕ) (trials : ℕ) → KeepsApart (three_names (λ i o c. Place i o c trials) input output cert)
 placing input output cert trials = by (are_apart input output cert) refl
   where
     by : (t : Bool) → are_apart input output cert ≡ t → KeepsApart (cond t (Some (Place input output cert trials)) None)
-    by true is i o c n e =
-        let outer = and_parts (not (bytes_eq input output)) (not (bytes_eq input cert) && not (bytes_eq output cert)) is in
-        let inner = and_parts (not (bytes_eq input cert)) (not (bytes_eq output cert)) outer.1 in
+    by true is = λ i o c n e.
+        let outer = and_parts (not (bytes_eq input output) && not (bytes_eq input cert)) (not (bytes_eq output cert)) is in
         let output_is : output ≡ o = cc in
         let cert_is : cert ≡ c = cc in
-        λ same. differ output cert inner.1 (output_is ∙ same ∙ sym cert_is)
+        λ same. differ output cert outer.1 (output_is ∙ same ∙ sym cert_is)
     by false is = nothing
 
 with_number : (input output cert : List ℕ) (trials : Option ℕ) → KeepsApart (with_trials input output cert trials)

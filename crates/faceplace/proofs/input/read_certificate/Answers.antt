@@ -10,7 +10,7 @@ pub returns-in-Ok-clause-gives : goal.returns-in-Ok-clause-gives
 returns-in-Ok-clause-gives g c = λ grid is_grid.
     let bytes = c.in_ok-bytes.bytes.items in
     let same : c.deref.result.now ≡ bytes = c.deref.ensures.value in
-    was_read most_cert (cert_of c.args.problem.now (slot_count grid)) (g.F.Folder.held c.args.folder.now) c.args.name.now bytes c.in-Ok.run c.in_ok-bytes.ensures.gives
+    was_read most_cert (cert_of c.args.problem.now (slot_count grid)) (g.F.Folder.held c.args.folder.now) c.args.name.now bytes c.in-Ok.run' c.in_ok-bytes.ensures.gives
     (rw same at (c.in-Ok.ensures.gives grid is_grid))
 
 pub returns-clause-gives : goal.returns-clause-gives

@@ -1,3 +1,5 @@
+use Rattle.std.specs.Prelude.{map, string_bytes}
+use Rattle.faceplace.specs.Request.{asks}
 use Rattle.fp_contest_in.specs.ReadsLaws.{reads_agree, reads_once}
 use Rattle.fp_out.specs.OutReadingLaws.{reads_exactly, one_drawing}
 use Rattle.fp_cert.specs.CertReadingLaws.{reads_exactly as certs_exactly, one_run}
@@ -28,4 +30,4 @@ pub returns-clause-headline : goal.returns-clause-headline
 returns-clause-headline g c =
     let before : Outside = outside (g.F.Folder.held c.args.folder.now) (g.S.Sink.written c.args.out.now) (g.F.Folder.faults c.args.folder.now) (g.S.Sink.faults c.args.out.now) in
     let after : Outside = outside (g.F.Folder.held c.serve.new.folder) (g.S.Sink.written c.serve.new.out) (g.F.Folder.faults c.serve.new.folder) (g.S.Sink.faults c.serve.new.out) in
-    rw c.code.ensures (headline_is _ (code_of c.serve.result) before after (asks_apart _) c.serve.ensures)
+    rw c.code.ensures (headline_is (asks (map string_bytes c.args.words.now)) (code_of c.serve.result) before after (asks_apart (map string_bytes c.args.words.now)) c.serve.ensures)
