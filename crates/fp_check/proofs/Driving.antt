@@ -2,10 +2,9 @@
 use Rattle.std.proofs.Common.{◌≡◌, ℕ, zero, suc, ◌+◌, ◌<◌, ◌≤◌, Bool, true, false, List, [], ◌∷◌, length, slice_get, Option, Some, None, Err, refl, sym, ap, subst, ◌∙◌, arith}
 use Rattle.std.specs.Prelude.{◌↔◌, IfSome, IsTrue, MatchOption}
 use Rattle.std.proofs.lemmas.Option.{same_Some, slice_get_within}
-use Rattle.fp_tech.specs.Slots.{Slots, slot_count, IsGrid}
+use Rattle.fp_tech.specs.Slots.{Slots, IsGrid}
 use Rattle.fp_netlist.specs.Netlist.{Netlist, IsSound}
 use Rattle.fp_place.specs.Drawing.{Drawing}
-use Rattle.fp_place.specs.Legal.{IsLegal}
 use Rattle.fp_place.specs.OnSlots.{AreOnCuts}
 use Rattle.fp_place.specs.Placed.{Placed, places_of}
 use Rattle.fp_place.specs.Places.{dies_of}
@@ -16,25 +15,23 @@ use Rattle.fp_seed.specs.Seeded.{SeedGives}
 use Rattle.fp_cert.specs.declared.finding.Finding.{Finding}
 use Rattle.fp_cert.specs.declared.finding.Finding.TheVariants.{Yes, No}
 use Rattle.fp_cert.specs.Endings.{has_rows}
-use Rattle.fp_cert.specs.OfProblem.{IsRunOf}
 use Rattle.fp_cert.specs.Shown.{ShownTrial, ShownRun}
-use Rattle.fp_cert.specs.Standing.{dies_shown, targets_shown, placed_shown}
+use Rattle.fp_cert.specs.Standing.{targets_shown, placed_shown}
 use Rattle.fp_cert.specs.StandingLaws.{length-targets_shown}
 use Rattle.fp_cert.specs.Trials.{IsFromSeed, answer_of}
 use Rattle.fp_check.specs.declared.views.Layout.{Layout}
 use Rattle.fp_check.specs.declared.views.View.{View}
 use Rattle.fp_check.specs.Answers.{AreNetsOf, IsRightAnswer}
 use Rattle.fp_check.specs.AnswerLaws.{answer_at}
-use Rattle.fp_check.specs.Conditions.{Condition, SeedStands, number_of, Holds, GoesOnFromStart, Draws, Finds}
+use Rattle.fp_check.specs.Conditions.{SeedStands, GoesOnFromStart, Draws, Finds}
 use Rattle.fp_check.specs.ConditionsLaws.{none_before, hold_on, each_holds, first_false}
 use Rattle.fp_check.specs.DrawnLegalLaws.{drawn_legal}
 use Rattle.fp_check.specs.Seeds.{IsSeedPlaced, StartsLike}
 use Rattle.fp_check.specs.Finding.{HoldBelow, IsTold, FindsAt}
 use Rattle.fp_check.specs.SeedsLaws.{placed_has_seed, no_seed, starts_from_seed, from_seed_starts}
-use Rattle.fp_check.specs.SoundLaws.{answer_right}
 use Rattle.fp_check.specs.Starting.{IsLayoutFor, StartsView, IsAnswerFor, DrawsView}
 use Rattle.fp_check.specs.StepsLaws.{from_seed_keeps_rules}
-use Rattle.fp_check.specs.Views.{IsLayoutOf, IsViewOf, AreViews}
+use Rattle.fp_check.specs.Views.{IsLayoutOf, AreViews}
 
 -- the first of some elements
 first_of : {A : Type 0} (xs : List A) → 1 ≤ length xs → (x : A) × (slice_get xs 0 ≡ Some x)

@@ -1,7 +1,6 @@
 -- The placement of the lines of a trial that lists each cell once is the one that it shows.
-use Rattle.std.proofs.Common.{◌≡◌, ℕ, ◌+◌, ◌<◌, true, false, List, length, map, replicate, get_or, slice_get, Option, Some, None, Result, Ok, Err, ℤ, pos, refl, sym, ap, subst, ◌∙◌, arith}
+use Rattle.std.proofs.Common.{◌≡◌, ℕ, ◌<◌, true, false, List, length, map, replicate, get_or, slice_get, Option, Some, None, Result, Ok, Err, ℤ, pos, sym, ap, subst, ◌∙◌, arith}
 use Rattle.std.specs.Prelude.{All, IfOk, IfSome, MatchOption}
-use Rattle.std.specs.List.{range_with_len}
 use Rattle.std.proofs.Math.ListN.{get_or-map}
 use Rattle.std.proofs.lemmas.List.{length-map}
 use Rattle.std.proofs.lemmas.List.FromFn.{get_or-map-range_with_len, length-map-range_with_len}
@@ -11,25 +10,25 @@ use Rattle.fp_base.specs.declared.ids.Die.{Die}
 use Rattle.fp_base.specs.declared.ids.Die.TheVariants.{Top, Bottom}
 use Rattle.fp_base.specs.declared.ids.Point.{Point}
 use Rattle.fp_tech.specs.Plan.{IsPlan}
-use Rattle.fp_tech.specs.Slots.{Slots, IsGrid, slot_count, centre_of}
+use Rattle.fp_tech.specs.Slots.{Slots, IsGrid, slot_count}
 use Rattle.fp_netlist.specs.Netlist.{Netlist}
 use Rattle.fp_place.specs.declared.placement.Spot.{Spot}
 use Rattle.fp_place.specs.Drawing.{IsCoordinate}
 use Rattle.fp_place.specs.OnSlotsLaws.{slot_in_range}
 use Rattle.fp_place.specs.Places.{dies_of}
-use Rattle.fp_place.specs.Placed.{LaneList, Placed, no_spot, spot_at, place_of, places_of, DoAgree, StandOnce, IsCentre, IsPlacementOf}
+use Rattle.fp_place.specs.Placed.{LaneList, Placed, no_spot, place_of, places_of, DoAgree, StandOnce, IsCentre, IsPlacementOf}
 use Rattle.fp_cert.specs.declared.shown.CellShown.{CellShown}
 use Rattle.fp_cert.specs.declared.shown.CutShown.{CutShown}
 use Rattle.fp_cert.specs.Endings.{has_rows}
 use Rattle.fp_cert.specs.OfProblem.{IsRowOf, IsCutOf, IsPlacedTrialOf}
 use Rattle.fp_cert.specs.Shown.{ShownRow, ShownTrial, rows_of}
-use Rattle.fp_cert.specs.Standing.{stand_of, spot_by, target_by, lanes_shown, spots_shown, targets_shown, places_shown, terminals_shown, placed_shown, dies_shown}
+use Rattle.fp_cert.specs.Standing.{stand_of, spot_by, target_by, lanes_shown, spots_shown, targets_shown, terminals_shown}
 use Rattle.fp_cert.specs.StandingLaws.{line_of, stand_there, entry_shown, spots_are}
 use Rattle.fp_check.specs.declared.views.Layout.{Layout}
 use Rattle.fp_check.specs.declared.views.View.{View}
 use Rattle.fp_check.specs.Conditions.{StandOnceShown}
 use Rattle.fp_check.specs.Views.{with_terminals, IsLayoutOf, IsViewOf}
-use Rattle.fp_check.proofs.Viewing.{long, length-with_terminals, terminals_are, centres_with, dies_placed}
+use Rattle.fp_check.proofs.Viewing.{length-with_terminals, terminals_are, centres_with, dies_placed}
 
 -- ---- the x of each cell
 

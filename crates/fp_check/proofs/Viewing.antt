@@ -1,32 +1,25 @@
 -- What a trial shows by cell, as it is put together: its lanes, its dies, its terminals and the placement of its lines.
-use Rattle.std.proofs.Common.{◌≡◌, ◌≢◌, ℕ, zero, suc, ◌+◌, ◌-◌, ◌<◌, ◌≤◌, Bool, true, false, cond, List, [], ◌∷◌, ◌++◌, length, map, take, drop, set, get_or, replicate, slice_get, Option, Some, None, ℤ, pos, refl, sym, ap, subst, ◌∙◌, append_assoc, arith}
-use Rattle.std.specs.Prelude.{◌==◌, ◌||◌, nat_eq, All, IfSome, fold, find, MatchOption, if◌then◌else◌}
+use Rattle.std.proofs.Common.{◌≡◌, ◌≢◌, ℕ, zero, suc, ◌+◌, ◌-◌, ◌<◌, ◌≤◌, Bool, true, false, cond, List, [], ◌∷◌, ◌++◌, length, map, take, drop, set, get_or, replicate, slice_get, Option, Some, None, refl, sym, ap, subst, ◌∙◌, append_assoc, arith}
+use Rattle.std.specs.Prelude.{◌==◌, ◌||◌, nat_eq, IfSome, find, MatchOption}
 use Rattle.std.specs.List.{list_any, range_with_len}
-use Rattle.std.proofs.Math.ListN.{get_or-map as get_or_of_map}
 use Rattle.std.proofs.lemmas.Bool.{false≢true}
 use Rattle.std.proofs.lemmas.Bool.Decides.{nat_tests}
 use Rattle.std.proofs.lemmas.List.{length-map, length-set, get_or-map, get_or-set_same, get_or-set_other, get_or-replicate, ext_get_or, take_more}
-use Rattle.std.proofs.lemmas.List.FromFn.{fill_by_all, get_or-map-range_with_len, length-map-range_with_len}
-use Rattle.std.proofs.lemmas.Option.{same_Some, slice_get_within, slice_get-get_or, get_or_from_slice_get}
+use Rattle.std.proofs.lemmas.List.FromFn.{fill_by_all}
+use Rattle.std.proofs.lemmas.Option.{same_Some}
 use Rattle.fp_base.specs.declared.ids.CellId.{CellId}
 use Rattle.fp_base.specs.declared.ids.Die.{Die}
 use Rattle.fp_base.specs.declared.ids.Die.TheVariants.{Top, Bottom}
 use Rattle.fp_base.specs.declared.ids.Point.{Point}
-use Rattle.fp_tech.specs.Plan.{IsPlan, segments}
-use Rattle.fp_tech.specs.Slots.{Slots, IsGrid, slot_count, centre_of}
+use Rattle.fp_tech.specs.Slots.{Slots, slot_count, centre_of}
 use Rattle.fp_netlist.specs.Netlist.{Netlist}
-use Rattle.fp_place.specs.declared.placement.Spot.{Spot}
-use Rattle.fp_place.specs.Drawing.{IsCoordinate}
-use Rattle.fp_place.specs.OnSlotsLaws.{slot_in_range}
 use Rattle.fp_place.specs.Places.{dies_of}
-use Rattle.fp_place.specs.Placed.{LaneList, Placed, no_spot, spot_at, places_of, DoAgree, StandOnce, IsCentre, IsPlacementOf}
+use Rattle.fp_place.specs.Placed.{LaneList, Placed, IsCentre}
 use Rattle.fp_cert.specs.declared.shown.CellShown.{CellShown}
 use Rattle.fp_cert.specs.declared.shown.CutShown.{CutShown}
 use Rattle.fp_cert.specs.Endings.{has_rows}
-use Rattle.fp_cert.specs.OfProblem.{IsCellOf, IsRowOf, IsCutOf}
-use Rattle.fp_cert.specs.Shown.{ShownRow, ShownTrial, ShownRun, rows_of}
-use Rattle.fp_cert.specs.Standing.{Stand, stand_of, spot_by, target_by, terminal_by, listed_die, lane_shown, lanes_shown, spots_shown, targets_shown, places_shown, terminals_shown, placed_shown, dies_shown}
-use Rattle.fp_cert.specs.StandingLaws.{ShowsEach, line_of, stand_there, entry_shown, spots_are}
+use Rattle.fp_cert.specs.Shown.{ShownRow, ShownTrial, ShownRun}
+use Rattle.fp_cert.specs.Standing.{terminal_by, listed_die, lane_shown, places_shown, terminals_shown, dies_shown}
 use Rattle.fp_check.specs.declared.views.Layout.{Layout}
 use Rattle.fp_check.specs.declared.views.View.{View}
 use Rattle.fp_check.specs.Views.{with_tops, with_terminals, IsLayoutOf, IsViewOf, AreViews}

@@ -1,6 +1,6 @@
 -- The sixteen conditions under which a drawing and a run of trials show, of a problem, that the drawing is the run's answer and the run was
 -- made as it should be. They are tried in this order, and each is read where those before it hold.
-use Rattle.std.specs.Prelude.{◌≡◌, ◌↔◌, ℕ, ◌+◌, ◌<◌, ◌≤◌, true, nat_eq, if◌then◌else◌, List, length, map, find, get_or, slice_get, Option, Some, None, is_some, Result, Ok, Err, pos, ◌+ℤ◌}
+use Rattle.std.specs.Prelude.{◌≡◌, ◌↔◌, ℕ, ◌+◌, ◌<◌, ◌≤◌, true, nat_eq, if◌then◌else◌, List, length, map, find, slice_get, Some, is_some, Ok, Err, pos, ◌+ℤ◌}
 use Rattle.std.specs.List.{count_by, IsDistinct}
 use Rattle.std.specs.Option.{option_map}
 use Rattle.fp_base.specs.declared.ids.Die.{Die}

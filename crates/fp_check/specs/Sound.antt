@@ -7,7 +7,6 @@ use Rattle.fp_place.specs.Drawing.{Drawing}
 use Rattle.fp_place.specs.Legal.{IsLegal}
 use Rattle.fp_score.specs.FirstFit.{Seat, IsSeed, seat_dies, seat_places, fit_terminals}
 use Rattle.fp_score.specs.Score.{score}
-use Rattle.fp_cert.specs.Certified.{AreDualsShown, ArePricesShown}
 use Rattle.fp_cert.specs.Endings.{has_rows}
 use Rattle.fp_cert.specs.Shown.{ShownTrial, ShownRun}
 use Rattle.fp_cert.specs.Standing.{places_shown, terminals_shown, placed_shown}

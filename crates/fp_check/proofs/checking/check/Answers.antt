@@ -1,4 +1,4 @@
-use Rattle.std.proofs.Common.{◌≡◌, subst}
+use Rattle.std.proofs.Common.{subst}
 use Rattle.std.proofs.lemmas.Result.{IfOk-weaker}
 use Rattle.fp_tech.specs.Plan.{Plan}
 use Rattle.fp_tech.specs.Slots.{IsGrid}

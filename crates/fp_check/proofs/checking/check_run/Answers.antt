@@ -1,7 +1,7 @@
 use Rattle.std.proofs.Common.{◌≡◌, Bool, true, false, refl, sym, ◌∙◌}
 use Rattle.std.specs.Prelude.{IsTrue}
 use Rattle.fp_check.specs.Conditions.{TrialsGoOn, CellsStandOnce}
-use Rattle.fp_check.specs.Finding.{HoldBelow, IsTold}
+use Rattle.fp_check.specs.Finding.{HoldBelow}
 use Rattle.fp_check.proofs.Driving.{below_two, told_on, told_first}
 use Rattle.fp_check.proofs.checking.check_run.Goals as goal
 

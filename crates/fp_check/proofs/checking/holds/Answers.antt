@@ -1,11 +1,10 @@
-use Rattle.std.proofs.Common.{rules, ◌≡◌, ◌+◌, ◌<◌, ◌≤◌, Bool, refl, sym, ap, subst, ◌∙◌, arith}
-use Rattle.std.specs.Prelude.{◌↔◌, IfOk, IsTrue}
+use Rattle.std.proofs.Common.{rules, ◌≡◌, arith}
+use Rattle.std.specs.Prelude.{◌↔◌, IsTrue}
 use Rattle.std.proofs.lemmas.Result.{IfOk-weaker}
-use Rattle.fp_check.specs.Conditions.{Condition, SeedStands, TrialsGoOn, CellsStandOnce, StartsFromSeed, DiesKeepRules, CutNoMore, DiesAreSettled, HaveTargets, HaveRows, RowsAreFeasible, RowsHaveDuals, CutNetsAreListed, SlotsHavePrices, ScoresAreRight, BetterIsBetter, DrawsAnswer, number_of, Holds, GoesOnFromStart}
-use Rattle.fp_check.specs.Finding.{HoldBelow, IsTold}
+use Rattle.fp_check.specs.Conditions.{TrialsGoOn, CellsStandOnce, StartsFromSeed, DiesKeepRules, CutNoMore, DiesAreSettled, HaveTargets, HaveRows, RowsAreFeasible, RowsHaveDuals, CutNetsAreListed, SlotsHavePrices, ScoresAreRight, BetterIsBetter, DrawsAnswer, Holds, GoesOnFromStart}
+use Rattle.fp_check.specs.Finding.{IsTold}
 use Rattle.fp_check.specs.RoomLaws.{rooms, has_layouts}
 use Rattle.fp_check.specs.SoundLaws.{answer_right}
-use Rattle.fp_check.specs.Starting.{DrawsView}
 use Rattle.fp_check.proofs.Driving.{first_layout, first_rules, start_told, answer_within, answer_for, draws_told}
 use Rattle.fp_check.proofs.checking.holds.Goals as goal
 use Rattle.fp_check.proofs.checking.holds.Goals.{Start}

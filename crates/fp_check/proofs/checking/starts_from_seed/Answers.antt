@@ -1,4 +1,4 @@
-use Rattle.std.proofs.Common.{◌≡◌, ◌<◌, ◌≤◌, get_or, Option, Some, subst, arith}
+use Rattle.std.proofs.Common.{get_or, Option, subst, arith}
 use Rattle.std.specs.Prelude.{IfSome}
 use Rattle.std.proofs.lemmas.Option.{slice_get-get_or}
 use Rattle.fp_check.specs.declared.views.Layout.{Layout}

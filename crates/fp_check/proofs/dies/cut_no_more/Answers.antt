@@ -1,6 +1,5 @@
-use Rattle.std.proofs.Common.{◌≡◌, ◌∙◌, ◌-◌, ◌<◌, ◌≤◌, length, List, get_or, refl, ap, sym, subst, arith}
+use Rattle.std.proofs.Common.{◌≡◌, ◌∙◌, ◌-◌, ◌<◌, ◌≤◌, length, refl, ap, sym, arith}
 use Rattle.std.proofs.lemmas.Bool.{false≢true}
-use Rattle.fp_base.specs.declared.ids.Die.{Die}
 use Rattle.fp_cert.specs.Standing.{dies_shown}
 use Rattle.fp_place.specs.Cut.{cut}
 use Rattle.fp_check.specs.declared.views.View.{View}

@@ -1,4 +1,4 @@
-use Rattle.std.proofs.Common.{refl, sym, ap, ◌∙◌, ◌≡◌, if◌then◌else◌, cond, arith}
+use Rattle.std.proofs.Common.{sym, ap, ◌∙◌, ◌≡◌, if◌then◌else◌, cond}
 use Rattle.fp_cert.specs.Trials.{is_better}
 use Rattle.fp_check.proofs.Betters.{better_more, better_all}
 use Rattle.fp_check.proofs.going.last_better.Goals as goal

@@ -1,4 +1,4 @@
-use Rattle.std.proofs.Common.{◌≡◌, ◌∙◌, ◌+◌, List, ◌++◌, take, ap, sym}
+use Rattle.std.proofs.Common.{◌∙◌, ◌+◌, List, ◌++◌, take, ap, sym}
 use Rattle.fp_cert.specs.declared.shown.CellShown.{CellShown}
 use Rattle.fp_check.specs.Marks.{cells_in, cells_in_rows}
 use Rattle.fp_check.proofs.Marking.{none_marked, go_on, stop_here, row_more, rows_none}

@@ -1,4 +1,3 @@
-use Rattle.std.proofs.Common.{refl}
 use Rattle.fp_cert.specs.Standing.{no_line}
 use Rattle.fp_check.proofs.Viewing.{lane_more}
 use Rattle.fp_check.proofs.views.fill_lane.Goals as goal

@@ -1,4 +1,4 @@
-use Rattle.std.proofs.Common.{◌≡◌, ◌∙◌, List, length, get_or, refl, ap, arith}
+use Rattle.std.proofs.Common.{◌∙◌, List, length, get_or, refl, ap, arith}
 use Rattle.std.proofs.lemmas.Option.{slice_get_read}
 use Rattle.fp_cert.specs.Shown.{ShownTrial}
 use Rattle.fp_check.proofs.Viewing.{views_more}

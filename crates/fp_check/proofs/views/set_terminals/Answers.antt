@@ -1,4 +1,4 @@
-use Rattle.std.proofs.Common.{◌≡◌, ◌+◌, ◌-◌, ℕ, length, drop, ap, ◌∙◌, arith}
+use Rattle.std.proofs.Common.{◌-◌, ℕ, length, drop, ap, ◌∙◌, arith}
 use Rattle.fp_place.specs.Placed.{Placed}
 use Rattle.fp_check.proofs.Viewing.{none_set, one_set, length-with_terminals}
 use Rattle.fp_check.proofs.views.set_terminals.Goals as goal
