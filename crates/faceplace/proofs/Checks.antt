@@ -1,5 +1,5 @@
 -- What a check finds, as the program's endings say it.
-use Rattle.std.proofs.Common.{◌≡◌, ℕ, List, Some, Ok, Err, refl, sym, ap, subst, ◌∙◌, inl, inr}
+use Rattle.std.proofs.Common.{◌≡◌, ℕ, refl, sym, ap, subst, ◌∙◌, inl, inr}
 use Rattle.fp_tech.specs.Slots.{Slots, slot_count, IsGrid}
 use Rattle.fp_tech.specs.SlotsLaws.{grid_once}
 use Rattle.fp_netlist.specs.Netlist.{Netlist, IsSound}

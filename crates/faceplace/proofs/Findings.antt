@@ -1,5 +1,5 @@
 -- How a run ends by what a check left of the output.
-use Rattle.std.proofs.Common.{◌≡◌, ℕ, List, Some, Ok, refl, inl, inr}
+use Rattle.std.proofs.Common.{◌≡◌, ℕ, List, Some, Ok, inl, inr}
 use Rattle.fp_base.specs.Files.{WhereTold}
 use Rattle.fp_tech.specs.Slots.{Slots, slot_count, IsGrid}
 use Rattle.fp_netlist.specs.Netlist.{Netlist}

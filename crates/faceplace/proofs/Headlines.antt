@@ -1,14 +1,13 @@
 -- A placement that is done is shown by its files, as they read back.
-use Rattle.std.proofs.Common.{◌≡◌, ◌≢◌, ℕ, suc, ◌<◌, ◌≤◌, ◌^◌, Bool, true, false, cond, List, [], ◌∷◌, length, Option, Some, None, Result, Ok, Err, refl, sym, ap, subst, ◌∙◌, arith, inl, inr}
-use Rattle.std.specs.Prelude.{MatchResult, nat_lt}
+use Rattle.std.proofs.Common.{◌≡◌, ◌≢◌, ℕ, suc, ◌≤◌, ◌^◌, Bool, cond, List, length, Option, Some, Result, Ok, Err, refl, sym, ap, subst, ◌∙◌, arith, inl, inr}
+use Rattle.std.specs.Prelude.{MatchResult}
 use Rattle.std.proofs.lemmas.Bool.{le-ltb}
 use Rattle.fp_base.specs.Files.{Files, bytes_of, with_file, followed_by}
 use Rattle.fp_base.specs.FilesLaws.{bytes_set, bytes_others}
-use Rattle.fp_tech.specs.Slots.{Slots, slot_count, IsGrid}
+use Rattle.fp_tech.specs.Slots.{Slots, slot_count}
 use Rattle.fp_tech.specs.SlotsLaws.{grid_once}
 use Rattle.fp_text.specs.Reading.{Fault}
 use Rattle.fp_netlist.specs.Netlist.{Netlist, IsSound}
-use Rattle.fp_place.specs.Drawing.{Drawing}
 use Rattle.fp_place.specs.Placed.{Placed, drawn_of}
 use Rattle.fp_flow.specs.Outcomes.{IsPlaced}
 use Rattle.fp_out.specs.OutLengthLaws.{placement_short}
@@ -32,10 +31,10 @@ use Rattle.fp_check.specs.SoundLaws.{sound}
 use Rattle.faceplace.specs.Report.{Cause, IsLong}
 use Rattle.faceplace.specs.Request.{Asked, Place}
 use Rattle.faceplace.specs.Outcome.{Outcome, with_writings, told, refusal}
-use Rattle.faceplace.specs.Sources.{most_input, most_cert, wrong_of, read_in, problem_in, drawing_in, cert_in}
+use Rattle.faceplace.specs.Sources.{most_input, most_cert, wrong_of, read_in, problem_in}
 use Rattle.faceplace.specs.Due.{PlaceStands, PlaceDue, IsDue}
 use Rattle.faceplace.specs.Trials.{place_report}
-use Rattle.faceplace.specs.Run.{Outside, EndsAs, IsDone}
+use Rattle.faceplace.specs.Run.{Outside, EndsAs}
 use Rattle.faceplace.specs.Headline.{IsShownBy, IsPlacedFrom, Headline}
 use Rattle.faceplace.proofs.Names.{HasNames, problem_named}
 use Rattle.faceplace.proofs.Nets.{nets_read}

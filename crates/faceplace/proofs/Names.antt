@@ -1,12 +1,12 @@
 -- The names of a problem that was read are names.
 use Rattle.std.proofs.Common.{◌≡◌, ℕ, Bool, true, false, cond, List, [], ◌∷◌, ◌++◌, length, map, Option, Some, None, Result, Ok, Err, refl, sym, ap, subst, ◌∙◌}
-use Rattle.std.specs.Prelude.{All, nat_lt}
+use Rattle.std.specs.Prelude.{nat_lt}
 use Rattle.std.proofs.lemmas.List.Elements.{All-nil, All-cons}
 use Rattle.fp_base.specs.Files.{Files, bytes_of}
 use Rattle.fp_text.specs.Numbers.{is_name}
 use Rattle.fp_text.specs.Reading.{Fault}
 use Rattle.fp_netlist.specs.Netlist.{Netlist, cell_names, no_cells}
-use Rattle.fp_contest_in.specs.Text.{InstText, NetText, ProblemText, inst_name_list, net_name_list, plan_of, cells_of, netlist_of}
+use Rattle.fp_contest_in.specs.Text.{InstText, NetText, ProblemText, net_name_list, plan_of, cells_of, netlist_of}
 use Rattle.fp_contest_in.specs.Printable.{EachIs, IsInstText, IsNetText, IsPrintable}
 use Rattle.fp_contest_in.specs.PrintableLaws.{text_is_printable}
 use Rattle.fp_contest_in.specs.ProblemLaws.{cell_names-with_inst_texts, cells-with_net_texts, nets-with_inst_texts, nets-with_net_texts}

@@ -1,6 +1,5 @@
 -- The cells that the trials of a run of a problem name are the problem's.
-use Rattle.std.proofs.Common.{◌≡◌, ℕ, List, Some, sym, subst}
-use Rattle.std.specs.Prelude.{slice_get, get_or}
+use Rattle.std.proofs.Common.{ℕ, subst}
 use Rattle.std.proofs.lemmas.Option.{slice_get_within, get_or_from_slice_get}
 use Rattle.fp_netlist.specs.Netlist.{Netlist}
 use Rattle.fp_cert.specs.declared.shown.Ending.{Ending}

@@ -1,11 +1,11 @@
 -- Words that ask for a placement name three files that differ.
-use Rattle.std.proofs.Common.{◌≡◌, ◌≢◌, ℕ, Bool, true, false, cond, List, [], ◌∷◌, Option, Some, None, Result, Ok, Err, refl, sym, ap, subst, ◌∙◌}
-use Rattle.std.specs.Prelude.{not, ◌&&◌, nat_eq, codes}
+use Rattle.std.proofs.Common.{◌≡◌, ◌≢◌, ℕ, Bool, true, false, cond, List, [], ◌∷◌, Option, Some, None, refl, sym, ◌∙◌}
+use Rattle.std.specs.Prelude.{not, ◌&&◌, codes}
 use Rattle.std.specs.Str.{bytes_eq}
 use Rattle.std.proofs.lemmas.Bool.{and_parts}
 use Rattle.std.proofs.lemmas.Slice.Eq.{bytes_eq-Decides}
 use Rattle.fp_text.specs.Numbers.{number_of}
-use Rattle.faceplace.specs.Request.{Asked, Seed, Score, Place, Check, two_names, are_apart, some_trials, three_names, with_trials, asks_placing, asks_checking, asks_for, asks}
+use Rattle.faceplace.specs.Request.{Asked, Seed, Score, Place, Check, two_names, are_apart, some_trials, three_names, with_trials, asks_placing, asks_checking, asks}
 
 -- where a placement is asked for, the names of its files that are written differ
 abbrev pub KeepsApart : Option Asked → Type 0

@@ -1,5 +1,5 @@
 -- What a check leaves of the output.
-use Rattle.std.specs.Prelude.{◌≡◌, ◌⊎◌, ℕ, List, Option}
+use Rattle.std.specs.Prelude.{◌⊎◌, ℕ, List, Option}
 use Rattle.fp_netlist.specs.Netlist.{Netlist}
 use Rattle.fp_place.specs.Drawing.{Drawing}
 use Rattle.fp_cert.specs.declared.finding.Finding.{Finding}

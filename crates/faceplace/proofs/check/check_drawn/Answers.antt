@@ -1,4 +1,4 @@
-use Rattle.std.proofs.Common.{Some, Ok, Err, refl, sym, subst, ap, inl, inr}
+use Rattle.std.proofs.Common.{Some, Ok, Err, refl, subst, ap, inr}
 use Rattle.fp_tech.specs.Plan.{Plan}
 use Rattle.fp_tech.specs.Slots.{IsGrid}
 use Rattle.faceplace.specs.Causes.{cause_of}
