@@ -1,6 +1,7 @@
 //! Whole runs over a folder and a sink in memory.
 
 use crate::run;
+use crate::tests_of_check::HIGH;
 use fp_base::{MemFolder, MemSink};
 use std::alloc::{AllocError, Global};
 use std::process::Abort;
@@ -20,12 +21,6 @@ LibCell\tMC1\t5\t10\t1\r\nPin\tP1\t2\t3\r\nTerminalSpacing\t1\r\nTerminalSize\t2
 BottomDieRows\t0\t0\t20\t10\t2\r\nTopDieRows\t0\t0\t20\t10\t2\r\nBottomDieMaxUtil\t50\r\nTopDieMaxUtil\t10\r\n\
 DieSize\t0\t0\t20\t20\r\nNumInstances\t2\r\nInst\tC1\tMC1\r\nInst\tC2\tMC1\r\nNumNets\t1\r\nNet\tN1\t2\r\n\
 Pin\tC1/P1\r\nPin\tC2/P1\r\n";
-
-/// A high cell that fits the top die alone, behind a cell that fills it.
-pub(crate) const HIGH: &str =
-    "NumTechnologies 1\nTech T 2\nLibCell S 4 10 1\nPin P 0 0\nLibCell H 4 20 1\nPin P 0 0\nDieSize 0 0 20 20\n\
-TopDieMaxUtil 20\nBottomDieMaxUtil 50\nTopDieRows 0 0 20 20 1\nBottomDieRows 0 0 20 10 2\nTopDieTech T\nBottomDieTech T\n\
-TerminalSize 2 2\nTerminalSpacing 1\nNumInstances 2\nInst C1 S\nInst C2 H\nNumNets 1\nNet N1 2\nPin C1/P\nPin C2/P\n";
 
 /// The contest's own small case: six cells, three nets, two of them cut.
 pub(crate) const CONTEST: &str =

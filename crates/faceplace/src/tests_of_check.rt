@@ -2,13 +2,19 @@
 
 use crate::run;
 use crate::tests::{
-    APART, BLOCKED, CONTEST, COSTLY, Changes, EMPTY, HIGH, NARROW, ONE_PLACE, PLACED, SMALL, Trial,
+    APART, BLOCKED, CONTEST, COSTLY, Changes, EMPTY, NARROW, ONE_PLACE, PLACED, SMALL, Trial,
     UNCHANGED, push_words, run_line, with_changes,
 };
 use fp_base::{MemFolder, MemSink};
 use std::alloc::{AllocError, Global};
 use std::process::Abort;
 use std::test::Fail;
+
+/// A high cell that fits the top die alone, behind a cell that fills it.
+pub(crate) const HIGH: &str =
+    "NumTechnologies 1\nTech T 2\nLibCell S 4 10 1\nPin P 0 0\nLibCell H 4 20 1\nPin P 0 0\nDieSize 0 0 20 20\n\
+TopDieMaxUtil 20\nBottomDieMaxUtil 50\nTopDieRows 0 0 20 20 1\nBottomDieRows 0 0 20 10 2\nTopDieTech T\nBottomDieTech T\n\
+TerminalSize 2 2\nTerminalSpacing 1\nNumInstances 2\nInst C1 S\nInst C2 H\nNumNets 1\nNet N1 2\nPin C1/P\nPin C2/P\n";
 
 /// A certificate of the small input: its seed, and a trial with both cells on the bottom die that is no better.
 const SMALL_CERT: &str =
