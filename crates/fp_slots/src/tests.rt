@@ -190,13 +190,13 @@ fn expect_floors(rt: &impl Abort, costs: &SlotCosts)
     }
 }
 
-// The slots of the second stripe that may cost the row less than these limits: none, the three at x 2, 5 and 8, and all.
+// The slots of the second stripe that may cost the row less than these limits: none, the two at x 2 and 5, and all.
 fn expect_near(rt: &impl Abort, costs: &SlotCosts)
     requires row { length costs.now.rows ≡ 1 }
     requires slots { slot_count costs.now.grid ≡ 36 }
 {
     assert!(rt; costs.stripe() == 6);
-    for (limit, near) in [(4, 6..6), (14, 6..9), (u64::MAX, 6..12)].iter() {
+    for (limit, near) in [(4, 6..6), (14, 6..8), (u64::MAX, 6..12)].iter() {
         assert!(rt; costs.near(0, 1, *limit) == *near);
     }
 }
