@@ -1,5 +1,5 @@
 -- How each path of the program ends, and that what is due has the status that is owed.
-use Rattle.std.proofs.Common.{◌≡◌, ◌⊎◌, ℕ, ◌≤◌, true, false, List, ◌∷◌, ◌++◌, Option, Some, None, Result, Ok, Err, OnOk, OnErr, is_err, refl, sym, ap, subst, ◌∙◌, inl, inr}
+use Rattle.std.proofs.Common.{◌≡◌, ◌⊎◌, ℕ, ◌≤◌, true, false, List, [], ◌∷◌, ◌++◌, Option, Some, None, Result, Ok, Err, OnOk, OnErr, is_err, refl, sym, ap, subst, ◌∙◌, inl, inr}
 use Rattle.std.specs.Prelude.{MatchResult}
 use Rattle.fp_base.specs.Faults.{Rose}
 use Rattle.fp_base.specs.Files.{Files, followed_by, FrontFollows, OthersStay}
@@ -7,10 +7,11 @@ use Rattle.fp_base.specs.FilesLaws.{rose_since}
 use Rattle.fp_tech.specs.Slots.{slot_count}
 use Rattle.faceplace.specs.declared.status.Status.{Status}
 use Rattle.faceplace.specs.declared.status.Status.TheVariants as statuses
-use Rattle.faceplace.specs.Request.{Asked, Seed, Score, Place, Check}
+use Rattle.faceplace.specs.Request.{Asked, Seed, Score, Place, Check, Gen, Demo}
 use Rattle.faceplace.specs.Report.{Cause, words_report}
 use Rattle.faceplace.specs.Outcome.{Writing, Outcome, with_writings, told}
 use Rattle.faceplace.specs.Sources.{problem_in, drawing_in, cert_in}
+use Rattle.faceplace.specs.Made.{made_line}
 use Rattle.faceplace.specs.Due.{IsDue}
 use Rattle.faceplace.specs.Owed.{IsOwed}
 use Rattle.faceplace.specs.Status.{code_of, Tells, Refuses}
@@ -164,7 +165,7 @@ due_is_owed (Some (Score input output)) files outcome status due owed =
     by_reading is.1.0 (drawing_in p output files) _ _ _ _ is.1.1 is.1.2 (wants is.0) (λ drawing one other. score_owed p drawing outcome status one other) (λ cause one other. status_of outcome _ status one other))
     (λ cause is wants. status_of outcome _ status is wants)
 due_is_owed (Some (Place input output cert trials)) files outcome status due owed =
-    by_reading due.0 (problem_in input files) _ _ _ _ due.1 due.2 owed (λ p is wants. place_owed p output cert trials outcome status is.1 (wants is.0))
+    by_reading due.0 (problem_in input files) _ _ _ _ due.1 due.2 owed (λ p is wants. place_owed [] p output cert trials outcome status is.1 (wants is.0))
     (λ cause is wants. status_of outcome _ status is wants)
 due_is_owed (Some (Check input output cert)) files outcome status due owed =
     by_reading due.0 (problem_in input files) _ _ _ _ due.1 due.2 owed (λ p is wants.
@@ -172,6 +173,8 @@ due_is_owed (Some (Check input output cert)) files outcome status due owed =
     by_reading drawn.2.0 (cert_in p (slot_count drawn.0) cert files) _ _ _ _ drawn.2.1 drawn.2.2 (wants_run drawn.0 drawn.1) (λ run one other. check_owed p drawing run outcome status one other)
     (λ cause one other. status_of outcome _ status one other)) (λ cause one other. status_of outcome _ status one other))
     (λ cause is wants. status_of outcome _ status is wants)
+due_is_owed (Some (Gen making output)) files outcome status due owed = status_of outcome _ status due owed
+due_is_owed (Some (Demo making output cert)) files outcome status due owed = place_owed (made_line making due.0) due.0 output cert 3 outcome status due.2 (owed due.0 due.1)
 
 -- Where no device fails, the status is the one that is owed, or memory ran out.
 pub owed_or_wanting : (asked : Option Asked) (files : Files) (owed status : ℕ) (old new : Outside) → old.held ≡ Some files → IsOwed asked files owed

@@ -1,5 +1,5 @@
 -- A placement that is done is shown by its files, as they read back.
-use Rattle.std.proofs.Common.{◌≡◌, ◌≢◌, ℕ, suc, ◌≤◌, ◌^◌, Bool, cond, List, length, Option, Some, Result, Ok, Err, refl, sym, ap, subst, ◌∙◌, arith, inl, inr}
+use Rattle.std.proofs.Common.{◌≡◌, ◌≢◌, ℕ, suc, ◌≤◌, ◌^◌, Bool, cond, List, [], ◌++◌, length, Option, Some, None, Result, Ok, Err, refl, sym, ap, subst, ◌∙◌, arith, inl, inr}
 use Rattle.std.specs.Prelude.{MatchResult}
 use Rattle.std.proofs.lemmas.Bool.{le-ltb}
 use Rattle.fp_base.specs.Files.{Files, bytes_of, with_file, followed_by}
@@ -29,14 +29,15 @@ use Rattle.fp_check.specs.CompleteLaws.{complete}
 use Rattle.fp_check.specs.Conditions.{CertOk}
 use Rattle.fp_check.specs.SoundLaws.{sound}
 use Rattle.faceplace.specs.Report.{Cause, IsLong}
-use Rattle.faceplace.specs.Request.{Asked, Place}
-use Rattle.faceplace.specs.Outcome.{Outcome, with_writings, told, refusal}
+use Rattle.faceplace.specs.Request.{Asked, Seed, Score, Place, Check, Gen, Demo}
+use Rattle.faceplace.specs.Outcome.{Outcome, with_writings, refusal}
 use Rattle.faceplace.specs.Sources.{most_input, most_cert, wrong_of, read_in, problem_in}
-use Rattle.faceplace.specs.Due.{PlaceStands, PlaceDue, IsDue}
+use Rattle.faceplace.specs.Due.{PlaceDue, IsDue}
+use Rattle.faceplace.specs.Made.{text_made, IsMade, made_line}
 use Rattle.faceplace.specs.Trials.{place_report}
 use Rattle.faceplace.specs.Run.{Outside, EndsAs}
-use Rattle.faceplace.specs.Headline.{IsShownBy, IsPlacedFrom, Headline}
-use Rattle.faceplace.proofs.Names.{HasNames, problem_named}
+use Rattle.faceplace.specs.Headline.{IsShownBy, HasLeft, LeavesPlaced, Headline}
+use Rattle.faceplace.proofs.Names.{HasNames, bytes_named, problem_named}
 use Rattle.faceplace.proofs.Nets.{nets_read}
 use Rattle.faceplace.proofs.Words.{KeepsApart}
 
@@ -95,39 +96,51 @@ shown p output cert limit before grid run seed_score is names apart placed = rec
     ok : CertOk p (drawn_of answer) run
     ok = complete p grid limit run is placed.grid_is placed.chain placed.certified
 
--- a done placement, of the outcome that was due
-from_due : (input output cert : List ℕ) (limit : ℕ) (before : Files) (outcome : Outcome) (old new : Outside) → output ≢ cert
+-- a placement that is due, with its files written and its report put
+left : (front : List ℕ) (p : Netlist) (output cert : List ℕ) (limit : ℕ) (before : Files) (outcome : Outcome) (old new : Outside) → IsSound p → HasNames p → output ≢ cert
+    → PlaceDue front p output cert limit outcome → outcome.status ≡ 0 → new.held ≡ with_writings outcome.writings (Some before)
+    → new.written ≡ followed_by outcome.report old.written → HasLeft front p output cert limit old new
+left front p output cert limit before outcome old new is names apart (inl stands) zero files put = record {
+  after = placed_files before p output cert (placed_shown p stands.grid (answer_of stands.run)) stands.run;
+  held = files ∙ ap (λ (o : Outcome). with_writings o.writings (Some before)) stands.is;
+  report = place_report p stands.seed_score stands.run;
+  shown = shown p output cert limit before stands.grid stands.run stands.seed_score is names apart stands.placed;
+  put = put ∙ ap (λ (o : Outcome). followed_by o.report old.written) stands.is;
+}
+left front p output cert limit before outcome old new is names apart (inr stops) zero files put =
+    absurd (omega (arith, zero, ap (λ (o : Outcome). o.status) stops.is))
+
+-- a done placement of a file's problem
+from_input : (input output cert : List ℕ) (limit : ℕ) (before : Files) (outcome : Outcome) (old new : Outside) → output ≢ cert
     → IsDue (Some (Place input output cert limit)) (Some before) outcome → outcome.status ≡ 0 → new.held ≡ with_writings outcome.writings (Some before)
-    → new.written ≡ followed_by outcome.report old.written → IsPlacedFrom input output cert limit before old new
-from_due input output cert limit before outcome old new apart due zero files put = by due.0 due.1 due.2
+    → new.written ≡ followed_by outcome.report old.written → LeavesPlaced (Some (Place input output cert limit)) before old new
+from_input input output cert limit before outcome old new apart due zero files put = by due.0 due.1 due.2
   where
-    other_status : (status : ℕ) (report : List ℕ) → outcome ≡ told (suc status) report → ⊥
-    other_status status report is = omega (arith, zero, ap (λ (o : Outcome). o.status) is)
-
-    made : (p : Netlist) → problem_in input before ≡ Ok p → IsSound p → PlaceStands p output cert limit outcome → IsPlacedFrom input output cert limit before old new
-    made p says is stands = record {
-      p = p;
-      input_says = says;
-      after = placed_files before p output cert (placed_shown p stands.grid (answer_of stands.run)) stands.run;
-      held = files ∙ ap (λ (o : Outcome). with_writings o.writings (Some before)) stands.is;
-      report = place_report p stands.seed_score stands.run;
-      shown = shown p output cert limit before stands.grid stands.run stands.seed_score is (problem_named input before p says) apart stands.placed;
-      put = put ∙ ap (λ (o : Outcome). followed_by o.report old.written) stands.is;
-    }
-
     by : (read : Result Netlist Cause) → read ≡ problem_in input before
-        → MatchResult read (λ p. IsSound p × PlaceDue p output cert limit outcome) (λ cause. outcome ≡ refusal most_input input cause) → IsPlacedFrom input output cert limit before old new
-    by (Ok p) says (is, inl stands) = made p (sym says) is stands
-    by (Ok p) says (is, inr stops) = absurd (other_status 3 _ stops.is)
-    by (Err cause) says is = absurd (other_status 2 _ is)
+        → MatchResult read (λ p. IsSound p × PlaceDue [] p output cert limit outcome) (λ cause. outcome ≡ refusal most_input input cause)
+        → LeavesPlaced (Some (Place input output cert limit)) before old new
+    by (Ok p) says (is, due) = (p, sym says, left [] p output cert limit before outcome old new is (problem_named input before p (sym says)) apart due zero files put)
+    by (Err cause) says is = absurd (omega (arith, zero, ap (λ (o : Outcome). o.status) is))
+
+-- what is done leaves its placement
+from_due : (asked : Option Asked) (before : Files) (outcome : Outcome) (old new : Outside) → KeepsApart asked → IsDue asked (Some before) outcome → outcome.status ≡ 0
+    → new.held ≡ with_writings outcome.writings (Some before) → new.written ≡ followed_by outcome.report old.written → LeavesPlaced asked before old new
+from_due None before outcome old new apart due zero files put = tt
+from_due (Some (Seed input output)) before outcome old new apart due zero files put = tt
+from_due (Some (Score input output)) before outcome old new apart due zero files put = tt
+from_due (Some (Place input output cert limit)) before outcome old new apart due zero files put =
+    from_input input output cert limit before outcome old new apart due zero files put
+from_due (Some (Check input output cert)) before outcome old new apart due zero files put = tt
+from_due (Some (Gen making output)) before outcome old new apart due zero files put = tt
+from_due (Some (Demo making output cert)) before outcome old new apart (p, made, due) zero files put =
+    (p, made, left (made_line making p) p output cert 3 before outcome old new made.sound (bytes_named (text_made making) p made.says) apart due zero files put)
 
 -- however a run ends, where it ends with 0 after a placement was asked for, the placement is done
 pub headline_is : (asked : Option Asked) (status : ℕ) (old new : Outside) → KeepsApart asked → EndsAs asked status old new → Headline asked status old new
-headline_is asked status old new apart (inl done) = λ input output cert limit before is held zero.
-    let due = subst (λ (files : Option Files). IsDue (Some (Place input output cert limit)) files done.outcome) held (subst (λ (a : Option Asked). IsDue a old.held done.outcome) is done.due) in
-    from_due input output cert limit before done.outcome old new (apart input output cert limit is) due (sym done.status_is ∙ zero)
+headline_is asked status old new apart (inl done) = λ before held zero.
+    from_due asked before done.outcome old new apart (subst (λ (files : Option Files). IsDue asked files done.outcome) held done.due) (sym done.status_is ∙ zero)
     (done.files ∙ ap (with_writings done.outcome.writings) held) done.reports
-headline_is asked status old new apart (inr (inl w)) = λ input output cert limit before is held zero. absurd (omega (arith, zero, w.status_is))
-headline_is asked status old new apart (inr (inr (inl r))) = λ input output cert limit before is held zero. absurd (omega (arith, zero, r.status_is))
-headline_is asked status old new apart (inr (inr (inr (inl w)))) = λ input output cert limit before is held zero. absurd (omega (arith, zero, w.status_is))
-headline_is asked status old new apart (inr (inr (inr (inr r)))) = λ input output cert limit before is held zero. absurd (omega (arith, zero, r.status_is))
+headline_is asked status old new apart (inr (inl w)) = λ before held zero. absurd (omega (arith, zero, w.status_is))
+headline_is asked status old new apart (inr (inr (inl r))) = λ before held zero. absurd (omega (arith, zero, r.status_is))
+headline_is asked status old new apart (inr (inr (inr (inl w)))) = λ before held zero. absurd (omega (arith, zero, w.status_is))
+headline_is asked status old new apart (inr (inr (inr (inr r)))) = λ before held zero. absurd (omega (arith, zero, r.status_is))

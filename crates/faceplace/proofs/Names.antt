@@ -66,7 +66,10 @@ netlist_named (Ok text) p printable e =
     subst HasNames one (text_has_names text (printable text refl))
 netlist_named (Err fault) p printable e = absurd cc
 
+pub bytes_named : (bytes : List ℕ) (p : Netlist) → problem_read bytes ≡ Ok p → HasNames p
+bytes_named bytes p says = netlist_named (problem_of bytes) p (λ text e. text_is_printable bytes text ((reads_agree bytes text).1 e)) says
+
 pub problem_named : (name : List ℕ) (files : Files) (p : Netlist) → problem_in name files ≡ Ok p → HasNames p
 problem_named name files p says =
     let read = is_read most_input problem_read (bytes_of files name) p says in
-    netlist_named (problem_of read.bytes) p (λ text e. text_is_printable read.bytes text ((reads_agree read.bytes text).1 e)) read.reads
+    bytes_named read.bytes p read.reads

@@ -45,14 +45,14 @@ seeding p trials grid run seed_score answer placed =
     (record { grid = grid; first = placed.seed.first; seats = placed.seed.seats }, record { grid_is = placed.grid_is; seed_is = placed.seed.seed })
 
 -- what is due where there is an outcome
-pub place_stands : (p : Netlist) (found : Found) (trials : ℕ) (output cert : List ℕ) → FlowGives p trials (Ok found)
-    → PlaceStands p output cert trials (placing p found.run found.answer output cert (place_report p found.seed_score found.run))
-place_stands p found trials output cert (grid, placed) = record {
+pub place_stands : (front : List ℕ) (p : Netlist) (found : Found) (trials : ℕ) (output cert : List ℕ) → FlowGives p trials (Ok found)
+    → PlaceStands front p output cert trials (placing p found.run found.answer output cert (front ++ place_report p found.seed_score found.run))
+place_stands front p found trials output cert (grid, placed) = record {
   grid = grid;
   run = found.run;
   seed_score = found.seed_score;
   placed = subst (IsPlaced p trials grid found.run found.seed_score) placed.answer_is placed;
-  is = ap (λ (answer : Placed). placing p found.run answer output cert (place_report p found.seed_score found.run)) placed.answer_is;
+  is = ap (λ (answer : Placed). placing p found.run answer output cert (front ++ place_report p found.seed_score found.run)) placed.answer_is;
 }
 
 -- and where both first fits stop
@@ -64,11 +64,11 @@ place_stops p trials top bottom gives = record {
 }
 
 -- what is due for a problem has the status that is owed
-pub place_owed : (p : Netlist) (output cert : List ℕ) (trials : ℕ) (outcome : Outcome) (status : ℕ) → PlaceDue p output cert trials outcome → SeedOwes p status
+pub place_owed : (front : List ℕ) (p : Netlist) (output cert : List ℕ) (trials : ℕ) (outcome : Outcome) (status : ℕ) → PlaceDue front p output cert trials outcome → SeedOwes p status
     → outcome.status ≡ status
-place_owed p output cert trials outcome status (inl due) (inl owed) = ap (λ (o : Outcome). o.status) due.is ∙ sym owed.2
-place_owed p output cert trials outcome status (inl due) (inr owed) =
+place_owed front p output cert trials outcome status (inl due) (inl owed) = ap (λ (o : Outcome). o.status) due.is ∙ sym owed.2
+place_owed front p output cert trials outcome status (inl due) (inr owed) =
     let seed = seeding p trials due.grid due.run due.seed_score _ due.placed in
     absurd (exclusive p seed.0 owed.0 seed.1 owed.1)
-place_owed p output cert trials outcome status (inr due) (inl owed) = absurd (exclusive p owed.0 due.stopping owed.1 due.stops)
-place_owed p output cert trials outcome status (inr due) (inr owed) = ap (λ (o : Outcome). o.status) due.is ∙ sym owed.2
+place_owed front p output cert trials outcome status (inr due) (inl owed) = absurd (exclusive p owed.0 due.stopping owed.1 due.stops)
+place_owed front p output cert trials outcome status (inr due) (inr owed) = ap (λ (o : Outcome). o.status) due.is ∙ sym owed.2

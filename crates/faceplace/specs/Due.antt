@@ -1,5 +1,5 @@
 -- What the words and the files make due.
-use Rattle.std.specs.Prelude.{◌≡◌, ◌⊎◌, ℕ, List, [], ◌∷◌, Option, Some, None, pos}
+use Rattle.std.specs.Prelude.{◌≡◌, ◌⊎◌, ℕ, List, [], ◌∷◌, ◌++◌, length, Option, Some, None, pos}
 use Rattle.fp_base.specs.Files.{Files}
 use Rattle.fp_tech.specs.Slots.{Slots, slot_count, IsGrid}
 use Rattle.fp_netlist.specs.Netlist.{Netlist, IsSound}
@@ -17,8 +17,10 @@ use Rattle.fp_cert.specs.Trials.{answer_of}
 use Rattle.fp_flow.specs.Outcomes.{IsPlaced}
 use Rattle.fp_check.specs.Conditions.{CertOk, FirstFalse}
 use Rattle.fp_check.specs.Sound.{Shows}
-use Rattle.faceplace.specs.Request.{Asked, Seed, Score, Place, Check}
-use Rattle.faceplace.specs.Report.{words_report, unfit_report, score_report, broken_report, finding_report}
+use Rattle.faceplace.specs.declared.request.Making.{Making}
+use Rattle.faceplace.specs.Request.{Asked, Seed, Score, Place, Check, Gen, Demo}
+use Rattle.faceplace.specs.Report.{words_report, unfit_report, score_report, broken_report, finding_report, bytes_report}
+use Rattle.faceplace.specs.Made.{text_made, IsMade, made_line}
 use Rattle.faceplace.specs.Outcome.{Outcome, told, refusal}
 use Rattle.faceplace.specs.Sources.{AfterFile, most_input, most_cert, problem_in, drawing_in, cert_in}
 use Rattle.faceplace.specs.Drawn.{drawn_score}
@@ -68,16 +70,25 @@ placing p run answer output cert report = record {
 }
 
 -- `place`, 0: a run of the problem of at most so many trials beside the first one; its answer is legal and no worse than the seed and than
--- each trial that placed its cells
-pub record PlaceStands (p : Netlist) (output cert : List ℕ) (trials : ℕ) (outcome : Outcome) : Type 0 where
+-- each trial that placed its cells; the report stands behind a front, which is empty for `place`
+pub record PlaceStands (front : List ℕ) (p : Netlist) (output cert : List ℕ) (trials : ℕ) (outcome : Outcome) : Type 0 where
   pub grid : Slots
   pub run : ShownRun
   pub seed_score : ℕ
   pub placed : IsPlaced p trials grid run seed_score (placed_shown p grid (answer_of run))
-  pub is : outcome ≡ placing p run (placed_shown p grid (answer_of run)) output cert (place_report p seed_score run)
+  pub is : outcome ≡ placing p run (placed_shown p grid (answer_of run)) output cert (front ++ place_report p seed_score run)
 
-abbrev pub PlaceDue : Netlist → List ℕ → List ℕ → ℕ → Outcome → Type 0
-PlaceDue p output cert trials outcome = PlaceStands p output cert trials outcome ⊎ SeedStops p outcome
+abbrev pub PlaceDue : List ℕ → Netlist → List ℕ → List ℕ → ℕ → Outcome → Type 0
+PlaceDue front p output cert trials outcome = PlaceStands front p output cert trials outcome ⊎ SeedStops p outcome
+
+-- `gen`, 0: the text of the input is written, and its length reported
+abbrev pub generating : Making → List ℕ → Outcome
+generating making output =
+    record { status = 0; report = bytes_report (length (text_made making)); writings = record { name = output; text = text_made making } ∷ [] }
+
+-- `demo`: what is due for a placement of the problem that the input says, in 3 trials, behind the line of its counts
+abbrev pub DemoDue : Making → List ℕ → List ℕ → Outcome → Type 0
+DemoDue making output cert outcome = (p : Netlist) × IsMade making p × PlaceDue (made_line making p) p output cert 3 outcome
 
 -- `check`, 0: all sixteen conditions hold of the drawing and the run, and so the drawing is a legal placement, that of the answer of the
 -- problem's run of trials
@@ -116,6 +127,8 @@ IsDue None held outcome = outcome ≡ told 2 words_report
 IsDue (Some (Seed input output)) held outcome = AfterInput held input (λ p. SeedDue p output outcome) outcome
 IsDue (Some (Score input output)) held outcome =
     AfterInput held input (λ p. AfterOutput held p output (λ drawing. ScoreDue p drawing outcome) outcome) outcome
-IsDue (Some (Place input output cert trials)) held outcome = AfterInput held input (λ p. PlaceDue p output cert trials outcome) outcome
+IsDue (Some (Place input output cert trials)) held outcome = AfterInput held input (λ p. PlaceDue [] p output cert trials outcome) outcome
 IsDue (Some (Check input output cert)) held outcome =
     AfterInput held input (λ p. AfterOutput held p output (λ drawing. AfterCert held p cert (λ run. CheckDue p drawing run outcome) outcome) outcome) outcome
+IsDue (Some (Gen making output)) held outcome = outcome ≡ generating making output
+IsDue (Some (Demo making output cert)) held outcome = DemoDue making output cert outcome

@@ -8,6 +8,7 @@ pub mod Sources
 pub mod Input
 pub mod Seeding
 pub mod Drawn
+pub mod Made
 pub mod Trials
 pub mod TrialCells
 pub mod Outcome

@@ -7,8 +7,9 @@ use Rattle.fp_place.specs.Drawing.{Drawing}
 use Rattle.fp_place.specs.Legal.{IsLegal}
 use Rattle.fp_cert.specs.Shown.{ShownRun}
 use Rattle.fp_check.specs.Conditions.{CertOk}
-use Rattle.faceplace.specs.Request.{Asked, Seed, Score, Place, Check}
+use Rattle.faceplace.specs.Request.{Asked, Seed, Score, Place, Check, Gen, Demo}
 use Rattle.faceplace.specs.Sources.{problem_in, drawing_in, cert_in}
+use Rattle.faceplace.specs.Made.{IsMade}
 use Rattle.faceplace.specs.Seeding.{Seeding, Stopping, IsSeeding, IsStopping}
 
 -- 0 where the problem's seed stands, 4 where neither first fit does
@@ -45,3 +46,5 @@ IsOwed (Some (Score input output)) files status =
 IsOwed (Some (Place input output cert trials)) files status = OwedForInput files input (λ p. SeedOwes p status) status
 IsOwed (Some (Check input output cert)) files status =
     OwedForInput files input (λ p. OwedForOutput files p output (λ drawing. OwedForCert files p cert (λ run. CheckOwes p drawing run status) status) status) status
+IsOwed (Some (Gen making output)) files status = status ≡ 0
+IsOwed (Some (Demo making output cert)) files status = (p : Netlist) → IsMade making p → SeedOwes p status

@@ -76,6 +76,14 @@ subject_text p (Side die) = die_text die
 abbrev pub broken_report : Netlist → ℕ → Subject → List ℕ
 broken_report p rule subject = codes "broken " ++ decimal rule ++ codes " " ++ subject_text p subject ++ codes "\n"
 
+-- `bytes B`: the length of a text
+abbrev pub bytes_report : ℕ → List ℕ
+bytes_report bytes = codes "bytes " ++ decimal bytes ++ codes "\n"
+
+-- `cells C nets N bytes B`: what a problem counts, and the length of its text
+abbrev pub counts_line : ℕ → ℕ → ℕ → List ℕ
+counts_line cells nets bytes = codes "cells " ++ decimal cells ++ codes " nets " ++ decimal nets ++ codes " bytes " ++ decimal bytes ++ codes "\n"
+
 -- `yes`, or `no K` with the number of the first condition that is false
 abbrev pub finding_report : Finding → List ℕ
 finding_report Yes = codes "yes\n"

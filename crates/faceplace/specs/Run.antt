@@ -4,7 +4,7 @@ use Rattle.fp_base.specs.Faults.{Rose}
 use Rattle.fp_base.specs.Files.{Files, WhereTold, OthersStay, followed_by, FrontFollows}
 use Rattle.fp_netlist.specs.Netlist.{Netlist, IsSound}
 use Rattle.fp_place.specs.Drawing.{Drawing}
-use Rattle.faceplace.specs.Request.{Asked, Seed, Score, Place, Check}
+use Rattle.faceplace.specs.Request.{Asked, Seed, Score, Place, Check, Gen, Demo}
 use Rattle.faceplace.specs.Report.{Cause}
 use Rattle.faceplace.specs.Outcome.{Writing, Outcome, with_writings}
 use Rattle.faceplace.specs.Sources.{AfterFile, problem_in, drawing_in}
@@ -53,6 +53,8 @@ IsUnread (Some (Score input output)) held unread = UpTo held input (problem_in i
 IsUnread (Some (Place input output cert trials)) held unread = UpTo held input (problem_in input) (λ p. ⊥) unread
 IsUnread (Some (Check input output cert)) held unread =
     UpTo held input (problem_in input) (λ p. UpTo held output (drawing_in p output) (λ drawing. unread ≡ cert) unread) unread
+IsUnread (Some (Gen making output)) held unread = ⊥
+IsUnread (Some (Demo making output cert)) held unread = ⊥
 
 -- the folder failed at reading a file: nothing was done. A count of faults is the folder's and names no file, so that this one failed is not told by it.
 pub record FailsAtReading (asked : Option Asked) (status : ℕ) (old new : Outside) : Type 0 where
@@ -98,6 +100,10 @@ pub record InputSays (p : Netlist) (input : List ℕ) (held : Option Files) : Ty
 -- a run ends with this status from where it has read the problem of its input file, whatever that file's name
 abbrev pub EndsForProblem : Netlist → (List ℕ → Asked) → ℕ → Outside → Outside → Type 0
 EndsForProblem p asked status old new = (input : List ℕ) → InputSays p input old.held → EndsAs (Some (asked input)) status old new
+
+-- a run ends with this status, whatever was asked for that makes such outcomes due
+abbrev pub EndsWhereDue : (Outcome → Type 0) → ℕ → Outside → Outside → Type 0
+EndsWhereDue Due status old new = (asked : Option Asked) → ((outcome : Outcome) → Due outcome → IsDue asked old.held outcome) → EndsAs asked status old new
 
 -- the output file of this name says this drawing for a problem
 pub record OutputSays (p : Netlist) (drawing : Drawing) (output : List ℕ) (held : Option Files) : Type 0 where

@@ -1,9 +1,11 @@
 //! The program `faceplace`: `seed IN OUT` writes the first-fit placement of a contest input, `place IN OUT CERT [N]` writes the best of the
 //! trials that follow it with a certificate of them, `score IN OUT` judges and scores an output file, and `check IN OUT CERT` checks one by a
-//! certificate.
+//! certificate. `gen NUMBER CELLS OUT [PERCENT]` writes an input that a number makes, and `demo NUMBER CELLS OUT CERT [PERCENT]` places one.
 #![tactic(auto)]
 
 mod check;
+mod demo;
+mod generate;
 mod input;
 mod place;
 mod refusal;
@@ -46,5 +48,7 @@ fn main(rt: HostRuntime) -> ExitCode {
 mod tests;
 #[cfg(test)]
 mod tests_of_check;
+#[cfg(test)]
+mod tests_of_gen;
 #[cfg(test)]
 mod tests_of_place;

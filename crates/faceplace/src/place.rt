@@ -5,9 +5,9 @@ ghost use Rattle.fp_place.specs.Placed.{IsPlacementOf};
 ghost use Rattle.fp_flow.specs.Outcomes.{FlowGives};
 ghost use Rattle.faceplace.specs.Request.{Asked, Place};
 ghost use Rattle.faceplace.specs.TrialCells.{AreTrialsOf};
-ghost use Rattle.faceplace.specs.Due.{placing, IsDue};
+ghost use Rattle.faceplace.specs.Due.{placing, PlaceDue, IsDue};
 ghost use Rattle.faceplace.specs.Status.{code_of};
-ghost use Rattle.faceplace.specs.Run.{outside, EndsAs, EndsForProblem};
+ghost use Rattle.faceplace.specs.Run.{outside, EndsAs, EndsWhereDue};
 
 use crate::input::{MOST_INPUT, Stop, read_input};
 use crate::refusal::{refuse, unfit};
@@ -45,9 +45,10 @@ fn write_files<F: Folder, S: Sink>(
     tell(out, report, Status::Done)
 }
 
-/// Writes an outcome of a problem, and reports it.
+/// Writes an outcome of a problem, and reports it behind a front.
 fn write_outcome<F: Folder, S: Sink>(
     alloc: Global,
+    front: &[u8],
     problem: &Problem,
     outcome: &Outcome,
     output: &str,
@@ -57,20 +58,21 @@ fn write_outcome<F: Folder, S: Sink>(
 ) -> Status
     requires of_problem { IsPlacementOf problem.now outcome.now.answer }
     requires trials { AreTrialsOf problem.now outcome.now.run.trials }
-    ensures { (trials : ℕ) → FlowGives problem.now trials (Ok outcome.now) → EndsForProblem problem.now (λ input. Place input output.now cert.now trials) (code_of result)
+    ensures { (trials : ℕ) → FlowGives problem.now trials (Ok outcome.now) → EndsWhereDue (PlaceDue front.now problem.now output.now cert.now trials) (code_of result)
         (outside (F.held folder.old) (S.written out.old) (F.faults folder.old) (S.faults out.old))
         (outside (F.held folder.new) (S.written out.new) (F.faults folder.new) (S.faults out.new)) }
 {
-    match place_report(alloc, problem, outcome.seed_score, &outcome.run) {
+    match place_report(alloc, front, problem, outcome.seed_score, &outcome.run) {
         Ok(report) => write_files(problem, outcome, &report, output, cert, folder, out),
         Err(_) => Status::NoMemory,
     }
 }
 
 /// Places the cells of a problem in at most so many trials beside the first one, writes the best placement and its certificate, and
-/// reports the trials.
-fn place_problem<F: Folder, S: Sink>(
+/// reports the trials behind a front.
+pub fn place_problem<F: Folder, S: Sink>(
     alloc: Global,
+    front: &[u8],
     problem: &Problem,
     output: &str,
     cert: &str,
@@ -80,12 +82,12 @@ fn place_problem<F: Folder, S: Sink>(
 ) -> Status
     requires some { 1 ≤ trials }
     requires few { trials ≤ 8 }
-    ensures { EndsForProblem problem.now (λ input. Place input output.now cert.now trials) (code_of result)
+    ensures { EndsWhereDue (PlaceDue front.now problem.now output.now cert.now trials) (code_of result)
         (outside (F.held folder.old) (S.written out.old) (F.faults folder.old) (S.faults out.old))
         (outside (F.held folder.new) (S.written out.new) (F.faults folder.new) (S.faults out.new)) }
 {
     match place(alloc, problem, trials) {
-        Ok(outcome) => write_outcome(alloc, problem, &outcome, output, cert, folder, out),
+        Ok(outcome) => write_outcome(alloc, front, problem, &outcome, output, cert, folder, out),
         Err(FlowFault::Memory) => Status::NoMemory,
         Err(
             FlowFault::Unfit {
@@ -114,7 +116,7 @@ pub fn run_place<F: Folder, S: Sink>(
         (outside (F.held folder.new) (S.written out.new) (F.faults folder.new) (S.faults out.new)) }
 {
     match read_input(alloc, folder, input) {
-        Ok(problem) => place_problem(alloc, &problem, output, cert, trials, folder, out),
+        Ok(problem) => place_problem(alloc, &[], &problem, output, cert, trials, folder, out),
         Err(Stop::Memory) => Status::NoMemory,
         Err(Stop::Device) => Status::Device,
         Err(Stop::Refused(cause)) => refuse(alloc, MOST_INPUT, input, cause, out),

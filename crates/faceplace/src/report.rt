@@ -2,7 +2,7 @@
 
 ghost use Rattle.std.specs.Prelude.{◌≡◌, IfOk, string_bytes};
 ghost use Rattle.fp_score.specs.FirstFit.{IsStopOf};
-ghost use Rattle.faceplace.specs.Report.{die_text, kind_text, fault_line, input_report, seed_report, stop_text, unfit_report, score_report, subject_text, broken_report, finding_report};
+ghost use Rattle.faceplace.specs.Report.{die_text, kind_text, fault_line, input_report, seed_report, stop_text, unfit_report, score_report, subject_text, broken_report, finding_report, bytes_report, counts_line};
 ghost use Rattle.faceplace.specs.Subjects.{IsSubjectOf};
 ghost use Rattle.faceplace.specs.Causes.{cause_of};
 
@@ -179,4 +179,22 @@ pub fn finding_report(alloc: Global, finding: Finding) -> Result<String, AllocEr
         Finding::Yes => format!(in alloc; "yes\n"),
         Finding::No(number) => format!(in alloc; "no {number}\n"),
     }
+}
+
+/// `bytes B`, for a text that was made.
+pub fn bytes_report(alloc: Global, bytes: usize) -> Result<String, AllocError>
+    ensures { IfOk result (λ report. string_bytes report ≡ bytes_report bytes) }
+{
+    format!(in alloc; "bytes {bytes}\n")
+}
+
+/// `cells C nets N bytes B`, for a problem that was made.
+pub fn counts_line(alloc: Global, cells: u32, nets: u32, bytes: usize) -> Result<String, AllocError>
+    ensures { IfOk result (λ line. string_bytes line ≡ counts_line cells nets bytes) }
+{
+    let mut line = format!(in alloc; "cells {cells}")?;
+    write!(line, " nets {nets}")?;
+    write!(line, " bytes {bytes}")?;
+    line.push_str("\n")?;
+    Ok(line)
 }

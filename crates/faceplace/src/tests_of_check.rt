@@ -28,10 +28,15 @@ const UNSETTLED_CERT: &str =
 BottomSegments 2\nSegment 1 0\nCell 1 0 0 0 0\nSegment 0 0\nTerminals 1\nCut 0 0 0\nScore 2\nTrial 1 norow 1\nTopCells 2\nCell 0\nCell 1\n\
 Answer 0\n";
 
-/// Runs the command over a folder, and answers its status.
-fn check_in(alloc: Global, folder: &mut MemFolder, out: &mut MemSink) -> Result<u8, AllocError> {
+/// Runs a command line over a folder, and answers its status.
+pub(crate) fn run_in(
+    alloc: Global,
+    line: &str,
+    folder: &mut MemFolder,
+    out: &mut MemSink,
+) -> Result<u8, AllocError> {
     let mut words = Vec::new(alloc);
-    let status = match push_words(alloc, &mut words, "check a o c") {
+    let status = match push_words(alloc, &mut words, line) {
         Ok(()) => Ok(run(alloc, words.as_slice(), folder, out)),
         Err(fault) => Err(fault),
     };
@@ -40,7 +45,7 @@ fn check_in(alloc: Global, folder: &mut MemFolder, out: &mut MemSink) -> Result<
 }
 
 /// A check of what a folder holds ends with this status and report.
-fn expect_found(
+pub(crate) fn expect_found(
     rt: &impl Abort,
     alloc: Global,
     folder: &mut MemFolder,
@@ -48,7 +53,7 @@ fn expect_found(
     report: &str,
 ) -> Result<(), Fail> {
     let mut out = MemSink::new(alloc, &[], 64)?;
-    let found = check_in(alloc, folder, &mut out);
+    let found = run_in(alloc, "check a o c", folder, &mut out);
     assert!(rt; found.is_ok_and(|code| code == status), "{report}");
     assert!(rt; out.written() == report.as_bytes(), "{report}");
     drop(out);

@@ -79,18 +79,20 @@ fn answer_score(run: &Run) -> u64
     }
 }
 
-/// The report of a run: the score of the seed, a line for each trial, and the score of the answer.
+/// The report of a run, behind a front: the score of the seed, a line for each trial, and the score of the answer.
 pub fn place_report(
     alloc: Global,
+    front: &[u8],
     problem: &Problem,
     seed_score: u64,
     run: &Run,
 ) -> Result<Vec<u8>, AllocError>
     requires { AreTrialsOf problem.now run.now.trials }
-    ensures { IfOk result (λ report. report.items ≡ place_report problem.now seed_score run.now) }
+    ensures { IfOk result (λ report. report.items ≡ front.now ++ place_report problem.now seed_score run.now) }
 {
     let head = format!(in alloc; "seed {seed_score}\n")?;
-    let mut report = head.into_bytes();
+    let mut report = Vec::from_slice(alloc, front)?;
+    report.extend_from_slice(head.as_bytes())?;
     push_trials(alloc, problem, run.trials(), &mut report)?;
     let foot = score_report(alloc, answer_score(run))?;
     report.extend_from_slice(foot.as_bytes())?;

@@ -1,10 +1,9 @@
-use Rattle.std.proofs.Common.{Some, Ok, Err, refl, inr}
+use Rattle.std.proofs.Common.{Ok, Err, refl, inr}
 use Rattle.fp_tech.specs.Slots.{slot_count}
 use Rattle.fp_score.specs.FirstFitLaws.{stop_within}
 use Rattle.fp_base.specs.declared.ids.Die.TheVariants as dies
 use Rattle.fp_flow.specs.Outcomes.{FlowGives}
 use Rattle.fp_flow.specs.declared.placing.FlowFault.TheVariants as faults
-use Rattle.faceplace.specs.Request.{Place}
 use Rattle.faceplace.specs.Report.{unfit_report}
 use Rattle.faceplace.specs.Run.{outside}
 use Rattle.faceplace.proofs.Endings.{refused}
@@ -36,7 +35,7 @@ unfit-requires-clause-bottom g c =
     stop_within c.args.problem.now (slot_count gives.0) dies.Bottom c.in-Err-Unfit.bottom_first gives.3
 
 pub returns-in-Err-Unfit : goal.returns-in-Err-Unfit
-returns-in-Err-Unfit g c = λ input says.
+returns-in-Err-Unfit g c = λ asked makes.
     let held = g.F.Folder.held in
     let folder_faults = g.F.Folder.faults in
     let put = g.S.Sink.written in
@@ -44,8 +43,8 @@ returns-in-Err-Unfit g c = λ input says.
     let top = c.in-Err-Unfit.top_first in
     let bottom = c.in-Err-Unfit.bottom_first in
     let gives : FlowGives c.args.problem.now c.args.trials (Err (faults.Unfit top bottom)) = rw c.in-Err-Unfit.field-0-is at c.in-Err-Unfit.ensures.gives in
-    refused (Some (Place input c.args.output.now c.args.cert.now c.args.trials)) 4 _ (unfit_report c.args.problem.now top bottom)
+    refused asked 4 _ (unfit_report c.args.problem.now top bottom)
     (outside (held c.args.folder.now) (put c.args.out.now) (folder_faults c.args.folder.now) (sink_faults c.args.out.now))
     (outside (held c.args.folder.now) (put c.unfit.new.out) (folder_faults c.args.folder.now) (sink_faults c.unfit.new.out))
-    (Ok c.args.problem.now, says.says, (says.sound, inr (place_stops c.args.problem.now c.args.trials top bottom gives)))
+    (makes _ (inr (place_stops c.args.problem.now c.args.trials top bottom gives)))
     refl c.unfit.ensures

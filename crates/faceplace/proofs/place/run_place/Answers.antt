@@ -1,9 +1,11 @@
-use Rattle.std.proofs.Common.{Some, Err, refl, sym, subst, ap, inl}
+use Rattle.std.proofs.Common.{Option, Some, Ok, Err, refl, sym, subst, ap, inl}
+use Rattle.fp_base.specs.Files.{Files}
+use Rattle.faceplace.specs.Due.{IsDue}
 use Rattle.faceplace.specs.Causes.{cause_of}
 use Rattle.faceplace.specs.Request.{Place}
 use Rattle.faceplace.specs.Report.{input_report}
 use Rattle.faceplace.specs.Sources.{most_input}
-use Rattle.faceplace.specs.Run.{outside, InputSays}
+use Rattle.faceplace.specs.Run.{outside}
 use Rattle.faceplace.specs.Status.{code_of}
 use Rattle.faceplace.proofs.Endings.{refused, since_read, unread}
 use Rattle.faceplace.proofs.place.run_place.Goals as goal
@@ -19,7 +21,9 @@ returns-in-Ok g c =
     (outside (held c.read_input.new.folder) (put c.args.out.now) (folder_faults c.read_input.new.folder) (sink_faults c.args.out.now))
     (outside (held c.place_problem.new.folder) (put c.place_problem.new.out) (folder_faults c.place_problem.new.folder) (sink_faults c.place_problem.new.out))
     c.read_input.ensures.held c.read_input.ensures.later refl refl
-    (c.place_problem.ensures c.args.input.now (subst (InputSays c.in-Ok.problem c.args.input.now) (sym c.read_input.ensures.held) (record { sound = c.in-Ok.ensures.sound; says = c.in-Ok.ensures.gives })))
+    (c.place_problem.ensures (Some (Place c.args.input.now c.args.output.now c.args.cert.now c.args.trials))
+    (λ outcome due. subst (λ (files : Option Files). IsDue (Some (Place c.args.input.now c.args.output.now c.args.cert.now c.args.trials)) files outcome) (sym c.read_input.ensures.held)
+    (Ok c.in-Ok.problem, c.in-Ok.ensures.gives, (c.in-Ok.ensures.sound, due))))
 
 pub returns-in-Err-Refused : goal.returns-in-Err-Refused
 returns-in-Err-Refused g c =

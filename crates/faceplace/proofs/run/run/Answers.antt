@@ -3,6 +3,7 @@ use Rattle.faceplace.specs.Request.{asks}
 use Rattle.fp_contest_in.specs.ReadsLaws.{reads_agree, reads_once}
 use Rattle.fp_out.specs.OutReadingLaws.{reads_exactly, one_drawing}
 use Rattle.fp_cert.specs.CertReadingLaws.{reads_exactly as certs_exactly, one_run}
+use Rattle.fp_gen.specs.MadeLaws.{reads_as_made}
 use Rattle.faceplace.specs.Status.{code_of}
 use Rattle.faceplace.specs.Run.{Outside, outside}
 use Rattle.faceplace.proofs.Endings.{owed_or_wanting}
@@ -31,3 +32,6 @@ returns-clause-headline g c =
     let before : Outside = outside (g.F.Folder.held c.args.folder.now) (g.S.Sink.written c.args.out.now) (g.F.Folder.faults c.args.folder.now) (g.S.Sink.faults c.args.out.now) in
     let after : Outside = outside (g.F.Folder.held c.serve.new.folder) (g.S.Sink.written c.serve.new.out) (g.F.Folder.faults c.serve.new.folder) (g.S.Sink.faults c.serve.new.out) in
     rw c.code.ensures (headline_is (asks (map string_bytes c.args.words.now)) (code_of c.serve.result) before after (asks_apart (map string_bytes c.args.words.now)) c.serve.ensures)
+
+pub returns-clause-generated : goal.returns-clause-generated
+returns-clause-generated g c = λ making is. reads_as_made making.number making.cells making.percent is.some is.few is.share
