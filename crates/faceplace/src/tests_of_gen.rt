@@ -128,20 +128,21 @@ fn expect_twice(
     alloc: Global,
     line: &str,
     head: &str,
-    folders: (&mut MemFolder, &mut MemFolder),
+    first: &mut MemFolder,
+    second: &mut MemFolder,
 ) -> Result<(), Fail> {
-    let mut first = MemSink::new(alloc, &[], 512)?;
-    let mut second = MemSink::new(alloc, &[], 512)?;
-    let one = run_in(alloc, line, folders.0, &mut first);
-    let other = run_in(alloc, line, folders.1, &mut second);
-    assert!(rt; one.is_ok_and(|code| code == 0), "{line}");
-    assert!(rt; other.is_ok_and(|code| code == 0), "{line}");
-    assert!(rt; first.written().starts_with(head.as_bytes()), "{line}");
-    assert!(rt; first.written() == second.written(), "{line}");
-    assert!(rt; folders.0.file("o") == folders.1.file("o"), "{line}");
-    assert!(rt; folders.0.file("c") == folders.1.file("c"), "{line}");
-    drop(first);
-    drop(second);
+    let mut one = MemSink::new(alloc, &[], 512)?;
+    let mut other = MemSink::new(alloc, &[], 512)?;
+    let status = run_in(alloc, line, first, &mut one);
+    assert!(rt; status.is_ok_and(|code| code == 0), "{line}");
+    let status = run_in(alloc, line, second, &mut other);
+    assert!(rt; status.is_ok_and(|code| code == 0), "{line}");
+    assert!(rt; one.written().starts_with(head.as_bytes()), "{line}");
+    assert!(rt; one.written() == other.written(), "{line}");
+    assert!(rt; first.file("o") == second.file("o"), "{line}");
+    assert!(rt; first.file("c") == second.file("c"), "{line}");
+    drop(one);
+    drop(other);
     Ok(())
 }
 
@@ -149,7 +150,7 @@ fn expect_twice(
 fn expect_same(rt: &impl Abort, alloc: Global, line: &str, head: &str) -> Result<(), Fail> {
     let mut first = MemFolder::new(alloc, &[], 2, ROOM)?;
     let mut second = MemFolder::new(alloc, &[], 2, ROOM)?;
-    let done = expect_twice(rt, alloc, line, head, (&mut first, &mut second));
+    let done = expect_twice(rt, alloc, line, head, &mut first, &mut second);
     drop(first);
     drop(second);
     done
