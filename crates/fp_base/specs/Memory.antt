@@ -66,16 +66,17 @@ holding table name bytes = record table { files = with_file table.files name byt
 abbrev pub bytes_under : Table → List ℕ → List ℕ
 bytes_under table name = unwrap_or (bytes_of table.files name) []
 
--- a folder in memory
+-- a folder in memory, with the greatest number of bytes that one read gives
 pub record FolderState : Type 0 where
   pub table : Table
   pub made : Option (List ℕ)
   pub calls : Calls
+  pub piece : ℕ
 
 abbrev pub folder_code : Coded FolderState
 folder_code =
-    code_by (Table × (Option (List ℕ) × Calls)) (coded× table_code (coded× (coded_option (coded_list coded_ℕ)) calls_code))
-    (λ f. (f.table, (f.made, f.calls))) (λ p. record { table = p.0; made = p.1.0; calls = p.1.1 }) (λ _. refl)
+    code_by (Table × (Option (List ℕ) × (Calls × ℕ))) (coded× table_code (coded× (coded_option (coded_list coded_ℕ)) (coded× calls_code coded_ℕ)))
+    (λ f. (f.table, (f.made, (f.calls, f.piece)))) (λ p. record { table = p.0; made = p.1.0; calls = p.1.1.0; piece = p.1.1.1 }) (λ _. refl)
 
 -- what the folder tells of what it holds
 abbrev pub files_told : FolderState → Option Files
@@ -87,7 +88,7 @@ can_create folder name = not (is_due folder.calls) && has_place folder.table nam
 
 -- after a `create` that went well
 abbrev pub created : FolderState → List ℕ → FolderState
-created folder name = record { table = holding folder.table name []; made = Some name; calls = counted folder.calls }
+created folder name = record folder { table = holding folder.table name []; made = Some name; calls = counted folder.calls }
 
 -- after a `create` that failed
 abbrev pub not_created : FolderState → FolderState
@@ -112,14 +113,14 @@ call_failed folder = record folder { calls = failed folder.calls }
 abbrev pub call_counted : FolderState → FolderState
 call_counted folder = record folder { calls = counted folder.calls }
 
--- what a read at an offset says of these bytes, for a buffer of this length
+-- what a read at an offset says of these bytes, which may give so many at most
 abbrev pub count_from : Option (List ℕ) → ℕ → ℕ → Result ℕ ReadFault
 count_from None at most = Err Missing
 count_from (Some bytes) at most = Ok (min most (length bytes - at))
 
--- what a read answers
+-- what a read answers, for a buffer of this length
 abbrev pub read_answer : FolderState → List ℕ → ℕ → ℕ → Result ℕ ReadFault
-read_answer folder name at most = if is_due folder.calls then Err Failed else count_from (bytes_of folder.table.files name) at most
+read_answer folder name at most = if is_due folder.calls then Err Failed else count_from (bytes_of folder.table.files name) at (min most folder.piece)
 
 -- after a read
 abbrev pub after_read : FolderState → FolderState

@@ -1,6 +1,6 @@
 //! A folder in memory, for tests: it tells what it holds, and fails where it is asked to.
 
-ghost use Rattle.std.specs.Prelude.{◌≡◌, ◌≤◌, ◌++◌, ◌-◌, [], Some, None, length, take, drop, min};
+ghost use Rattle.std.specs.Prelude.{◌≡◌, ◌≤◌, ◌++◌, ◌-◌, ◌^◌, [], Some, None, length, take, drop, min};
 ghost use Rattle.std.specs.Prelude.{option_copied, IfOk, OnOk, OnErr, IsErrOf, is_ok};
 ghost use Rattle.std.specs.Bool.{OnTrue, OnFalse};
 ghost use Rattle.std.specs.FinMap as finite;
@@ -27,6 +27,7 @@ pub struct MemFolder {
     made: Buffer,
     is_made: bool,
     calls: CallCount,
+    piece: usize,
 }
 
 impl Model for MemFolder {
@@ -57,6 +58,7 @@ impl MemFolder {
           table = record { files = finite.empty; most = files; room = room };
           made = None;
           calls = record { so_far = 0; faults = 0; fails = fails.now };
+          piece = 2 ^ 64 - 1;
         }) }
     {
         let table = FileTable::new(alloc, files, room)?;
@@ -67,6 +69,7 @@ impl MemFolder {
             made,
             is_made: false,
             calls,
+            piece: usize::MAX,
         })
     }
 
@@ -87,6 +90,15 @@ impl MemFolder {
         ensures { option_copied result ≡ bytes_of self.now.table.files name.now }
     {
         self.table.get(name.as_bytes())
+    }
+
+    /// From now on a read gives at most this many bytes, at least 1. It is no call of the folder, and
+    /// changes nothing else.
+    pub fn set_piece(&mut self, most: usize)
+        requires { 1 ≤ most }
+        ensures { self.new ≡ record self.old { piece = most } }
+    {
+        self.piece = most;
     }
 
     /// How many calls of the folder there were, as far as 2^64 - 1. A call's number is what this
@@ -126,7 +138,7 @@ impl Folder for MemFolder {
         }
         self.calls.count();
         match self.table.get(name.as_bytes()) {
-            Some(bytes) => Ok(copy_from(bytes, at as usize, buf)),
+            Some(bytes) => Ok(copy_from(bytes, at as usize, self.piece, buf)),
             None => Err(ReadFault::Missing),
         }
     }
@@ -175,15 +187,16 @@ impl Folder for MemFolder {
     }
 }
 
-/// Copies the bytes from an offset on into the front of the buffer, as many as there are and fit.
-fn copy_from(bytes: &[u8], at: usize, buf: &mut [u8]) -> usize
-    ensures count { result ≡ min (length buf.old) (length bytes.now - at) }
+/// Copies the bytes from an offset on into the front of the buffer, as many as there are and fit, and
+/// at most so many.
+fn copy_from(bytes: &[u8], at: usize, most: usize, buf: &mut [u8]) -> usize
+    ensures count { result ≡ min (min (length buf.old) most) (length bytes.now - at) }
     ensures front { take result buf.new ≡ take result (drop at bytes.now) }
     ensures rest { drop result buf.new ≡ drop result buf.old }
 {
     let start = at.min(bytes.len());
     let left = &bytes[start..];
-    let count = buf.len().min(left.len());
+    let count = buf.len().min(most).min(left.len());
     buf[..count].copy_from_slice(&left[..count]);
     count
 }

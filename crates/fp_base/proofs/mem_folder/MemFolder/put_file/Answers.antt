@@ -10,9 +10,9 @@ use Rattle.fp_base.proofs.mem_folder.MemFolder.put_file.Goals as goal
 sound_after : (r : Bool) (f : Inside) (table : Table) (name bytes : _) → OnTrue r (table ≡ holding f.table name bytes) → OnFalse r (table ≡ f.table)
     → IsSound f → IsSound (record f { table = table })
 sound_after true f table name bytes held refused sound =
-    rw held (record { name_room = sound.name_room; held = λ made. held_later f.table.files name bytes f.made.bytes (sound.held made) })
+    rw held (record { name_room = sound.name_room; held = λ made. held_later f.table.files name bytes f.made.bytes (sound.held made); gives = sound.gives })
 sound_after false f table name bytes held refused sound =
-    rw refused (record { name_room = sound.name_room; held = sound.held })
+    rw refused (record { name_room = sound.name_room; held = sound.held; gives = sound.gives })
 
 pub invariant_of-self : goal.invariant_of-self
 invariant_of-self c = sound_after c.set.result c.self.inside c.set.new.self _ _ c.set.ensures.held c.set.ensures.refused c.self.invariant
