@@ -7,24 +7,23 @@ use Rattle.std.proofs.Math.Seq.{drop-length, take-length}
 use Rattle.std.specs.List.{AllByRecursion}
 use Rattle.fp_rows.specs.declared.RowCell.{RowCell}
 use Rattle.fp_rows.specs.Squares.{IsCell, width_of, squared_cost, squared_rise, total_weight}
-use Rattle.fp_rows.specs.SquaresLaws.{squares_are_convex}
+use Rattle.fp_rows.specs.SquaresLaws.{squares_are_convex, squares_sized}
 use Rattle.fp_rows.specs.Duality.{rise-from}
 use Rattle.fp_rows.specs.Products.{mul-add, add-mul, mul-neg, mul-assoc, mul_comm}
 use Rattle.fp_rows.specs.Weights.{weight_low}
-use Rattle.fp_rows.specs.Lists.{drop-at, drop-all}
+use Rattle.fp_rows.specs.Lists.{drop-at, drop-all, all_front, all_behind, drop_at}
+use Rattle.fp_rows.specs.Runs.{total, rises, span, Grows}
+use Rattle.fp_rows.specs.RunsLaws.{span_low, span-append}
 use Rattle.fp_abacus.specs.declared.stack.Cluster.{Cluster}
-use Rattle.fp_abacus.specs.Clusters.{total, rises, span, Grows}
 use Rattle.fp_abacus.specs.Stacks.{slope, IsMoment, IsCluster, IsFront, IsUnder, AreClusters, AreClustersBehind, IsMade}
 use Rattle.fp_abacus.proofs.Joins.{both_total, joined}
-use Rattle.fp_abacus.proofs.Spans.{span_low}
-use Rattle.fp_abacus.proofs.Places.{all_front, all_behind, span-append, drop_at}
 
 -- ---- squares
-grows : (c : RowCell) → IsCell c → Grows squared_rise c
+pub grows : (c : RowCell) → IsCell c → Grows squared_rise c
 grows c h x y le = by_gap (y -ℤ x) refl
   where
     by_gap : (d : ℤ) → d ≡ y -ℤ x → squared_rise c x ≤ℤ squared_rise c y
-    by_gap (pos k) e = rise-from squared_cost squared_rise c (squares_are_convex c h) k x y (omega (arith, ints))
+    by_gap (pos k) e = rise-from x y width_of squared_cost squared_rise c (squares_are_convex x y c h) k x y (omega (arith, ints)) (omega (arith, ints)) (omega (arith, ints))
     by_gap (negsuc k) e = absurd (omega (arith, ints))
 
 pub all_grow : (cells : List RowCell) → AllByRecursion IsCell cells → AllByRecursion (Grows squared_rise) cells
@@ -146,7 +145,7 @@ adding_next offset cells a b j ks each light h apart made =
     let others = weight_low rest2 (all_behind IsCell (run ++ run2) rest2 each2) in
     let light2 : total_weight ((run ++ run2) ++ rest2) ≤ℤ pos (2 ^ 22) = rw cut at light in
     let w = weight-append (run ++ run2) rest2 in
-    let spans = span-append run run2 in
+    let spans = span-append width_of run run2 in
     let offsets : (offset +ℤ span width_of run) +ℤ span width_of run2 ≡ offset +ℤ span width_of (run ++ run2) = omega (arith, ints) in
     record {
       run = run ++ run2;
@@ -199,7 +198,7 @@ pub record IsStacking (cells : List RowCell) (work : List Cluster) (i : ℕ) (be
 span-more : (cells : List RowCell) (i : ℕ) (d : RowCell) → i < length cells → span width_of (take (i + 1) cells) ≡ span width_of (take i cells) +ℤ (get_or cells i d).width
 span-more cells i d lt =
     let cut = take_more cells i d lt in
-    let e = span-append (take i cells) (get_or cells i d ∷ []) in
+    let e = span-append width_of (take i cells) (get_or cells i d ∷ []) in
     rw cut (omega (arith, ints, e))
 
 pub stacking_start : (cells : List RowCell) (work : List Cluster) (n : ℕ) (width : ℤ) → n ≡ length cells → length work ≡ length cells → width ≡ span width_of cells → IsStacking cells work n width n
@@ -227,9 +226,9 @@ ready cells work i before first d each lt h =
     let more = span-more cells i d lt in
     let wide = h.wide in
     let halves : AllByRecursion IsCell (take i cells ++ drop i cells) = rw (take-append-drop i cells) each in
-    let low = span_low (take i cells) (all_front IsCell (take i cells) (drop i cells) halves) in
-    let high = span_low (drop i cells) (all_behind IsCell (take i cells) (drop i cells) halves) in
-    let both : span width_of cells ≡ span width_of (take i cells) +ℤ span width_of (drop i cells) = rw (take-append-drop i cells) at (span-append (take i cells) (drop i cells)) in
+    let low = span_low width_of (take i cells) (squares_sized (take i cells) (all_front IsCell (take i cells) (drop i cells) halves)) in
+    let high = span_low width_of (drop i cells) (squares_sized (drop i cells) (all_behind IsCell (take i cells) (drop i cells) halves)) in
+    let both : span width_of cells ≡ span width_of (take i cells) +ℤ span width_of (drop i cells) = rw (take-append-drop i cells) at (span-append width_of (take i cells) (drop i cells)) in
     let back : before ≡ (before -ℤ (get_or cells i d).width) +ℤ (get_or cells i d).width = omega (arith, ints) in
     record {
       from = omega (arith, ints);

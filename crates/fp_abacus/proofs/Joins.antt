@@ -2,18 +2,14 @@
 use Rattle.std.proofs.Common.{◌≡◌, ◌⊎◌, inl, inr, ℤ, pos, ◌+ℤ◌, ◌-ℤ◌, ◌≤ℤ◌, ◌<ℤ◌, List, [], ◌∷◌, ◌++◌, arith, ap, ◌∙◌}
 use Rattle.std.proofs.lemmas.Int.{ints, by_lt_z}
 use Rattle.std.specs.List.{AllByRecursion}
-use Rattle.fp_abacus.specs.Clusters.{total, FirstsAtMostZero, LastsAtLeastZero, rises, IsRunAt, Grows, span}
-use Rattle.fp_abacus.proofs.Sums.{Below, total-append, total-below, firsts_below, lasts_above, firsts-append, lasts-append, lasts_total, firsts_total, firsts_from_lasts, lasts_from_firsts, same_below}
+use Rattle.fp_rows.specs.Runs.{total, FirstsAtMostZero, LastsAtLeastZero, rises, Grows, span}
+use Rattle.fp_rows.specs.SumsLaws.{Below, total-append, total-below, firsts_below, lasts_above, firsts-append, lasts-append, lasts_total, firsts_total, firsts_from_lasts, lasts_from_firsts, same_below}
+use Rattle.fp_rows.specs.RunsLaws.{rises-append}
+use Rattle.fp_abacus.specs.Clusters.{IsRunAt}
 
 pub rises_below : {Cell : Type 0} (width : Cell → ℤ) (rise : Cell → ℤ → ℤ) (run : List Cell) (x y : ℤ) → AllByRecursion (Grows rise) run → x ≤ℤ y → Below (rises width rise x run) (rises width rise y run)
 rises_below width rise [] x y h le = tt
 rises_below width rise (c ∷ cs) x y h le = (h.0 x y le, rises_below width rise cs (x +ℤ width c) (y +ℤ width c) h.1 (omega (arith, ints)))
-
-pub rises-append : {Cell : Type 0} (width : Cell → ℤ) (rise : Cell → ℤ → ℤ) (run others : List Cell) (x y : ℤ) → y ≡ x +ℤ span width run → rises width rise x (run ++ others) ≡ rises width rise x run ++ rises width rise y others
-rises-append width rise [] others x y e =
-    let here : x ≡ y = omega (arith, ints) in
-    ap (λ z. rises width rise z others) here
-rises-append width rise (c ∷ cs) others x y e = ap (λ rs. rise c x ∷ rs) (rises-append width rise cs others (x +ℤ width c) y (omega (arith, ints)))
 
 joined_firsts : (rs ss : List ℤ) → FirstsAtMostZero (pos 0) rs → (total rs +ℤ total ss) ≤ℤ pos 0 → LastsAtLeastZero (pos 0) ss ⊎ FirstsAtMostZero (pos 0) ss → FirstsAtMostZero (pos 0) (rs ++ ss)
 joined_firsts rs ss f whole (inl g) = firsts-append (pos 0) rs ss f (firsts_from_lasts (pos 0 +ℤ total rs) ss (omega (arith, ints)) g)

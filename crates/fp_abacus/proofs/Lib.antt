@@ -1,11 +1,8 @@
-pub mod Sums
 pub mod Joins
-pub mod Tight
 pub mod Places
 pub mod Levels
-pub mod Spans
 pub mod Adding
 pub mod Packing
-pub mod Needs
+pub mod Rises
 pub mod Whole
 pub mod Mixed

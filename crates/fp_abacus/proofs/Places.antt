@@ -1,17 +1,18 @@
 -- The positions that clusters give are tight.
-use Rattle.std.proofs.Common.{◌≡◌, ℕ, ◌<◌, max, ℤ, pos, ◌+ℤ◌, ◌-ℤ◌, ◌≤ℤ◌, ◌<ℤ◌, List, [], ◌∷◌, ◌++◌, length, drop, arith, refl}
-use Rattle.std.proofs.lemmas.Int.{ints, clamps, by_lt_z}
-use Rattle.std.proofs.Math.Seq.{drop-append_seam}
+use Rattle.std.proofs.Common.{◌≡◌, ℕ, ℤ, pos, ◌+ℤ◌, ◌-ℤ◌, ◌≤ℤ◌, ◌<ℤ◌, List, [], ◌∷◌, ◌++◌, arith, refl}
+use Rattle.std.proofs.lemmas.Int.{ints, clamps}
 use Rattle.std.proofs.lemmas.List.{take_at}
 use Rattle.std.specs.List.{AllByRecursion}
 use Rattle.fp_rows.specs.declared.RowCell.{RowCell}
 use Rattle.fp_rows.specs.Squares.{width_of, squared_rise}
+use Rattle.fp_rows.specs.Runs.{rises, packed, Grows, span}
+use Rattle.fp_rows.specs.LeastDuals.{need}
+use Rattle.fp_rows.specs.TightLaws.{Tight, tight_end, tight_gap, tight_first, need_before_run, left_over, nothing_left, tight_run}
+use Rattle.fp_rows.specs.Lists.{all_front, all_behind, drop_at}
+use Rattle.fp_rows.specs.RunsLaws.{span-append}
 use Rattle.fp_abacus.specs.declared.stack.Cluster.{Cluster}
-use Rattle.fp_abacus.specs.Clusters.{rises, packed, Grows, span}
-use Rattle.fp_abacus.specs.Duals.{need, first_dual}
 use Rattle.fp_abacus.specs.Stacks.{IsUnder, AreClusters, clamped, places}
 use Rattle.fp_abacus.proofs.Joins.{lower, higher}
-use Rattle.fp_abacus.proofs.Tight.{Tight, need_before_run, left_over, nothing_left, tight_run}
 
 -- ---- levels between the ends
 pub record IsClamped (lo top level : ℤ) : Type 0 where
@@ -33,18 +34,7 @@ pub clamped-le : (lo top a b : ℤ) → a ≤ℤ b → clamped lo top a ≤ℤ c
 unfolding clamped
 clamped-le lo top a b le = omega (arith, ints, clamps)
 
-pub drop_at : {A : Type 0} (run others : List A) (n : ℕ) → length run ≡ n → drop n (run ++ others) ≡ others
-drop_at run others n e = rw (← e) (drop-append_seam run others)
-
 -- ---- runs, and all clusters
-pub all_front : {A : Type 0} (P : A → Type 0) (xs ys : List A) → AllByRecursion P (xs ++ ys) → AllByRecursion P xs
-all_front P [] ys h = tt
-all_front P (x ∷ xs) ys h = (h.0, all_front P xs ys h.1)
-
-pub all_behind : {A : Type 0} (P : A → Type 0) (xs ys : List A) → AllByRecursion P (xs ++ ys) → AllByRecursion P ys
-all_behind P [] ys h = h
-all_behind P (x ∷ xs) ys h = all_behind P xs ys h.1
-
 no_need : (lo top : ℤ) → lo ≤ℤ top → (ks : List Cluster) (offset from : ℤ) (cells : List RowCell) → AllByRecursion (Grows squared_rise) cells → AreClusters offset cells ks → lo <ℤ clamped lo top from → IsUnder from ks → need squared_rise cells (places lo top offset cells ks) ≡ 0
 no_need lo top le [] offset from cells grows h inside under = rw h refl
 no_need lo top le (k ∷ ks) offset from cells grows h inside under =
@@ -60,30 +50,6 @@ no_need lo top le (k ∷ ks) offset from cells grows h inside under =
     let firsts = lower width_of squared_rise run offset (at -ℤ pos 1) (k.level -ℤ pos 1) (all_front (Grows squared_rise) run rest steep) (omega (arith, ints, between.not_raised (omega (arith, ints)))) h.0.front.best.firsts in
     let none = need_before_run width_of squared_rise run rest (places lo top (offset +ℤ span width_of run) rest ks) (at +ℤ offset) ((at -ℤ pos 1) +ℤ offset) (pos 0) (omega (arith, ints)) (omega (arith, ints)) firsts others in
     rw (cut, take_at run rest k.cells count, drop_at run rest k.cells count) (omega (arith, ints, none))
-
-tight_end : (lo top level hi from : ℤ) (spare : ℕ) → level ≤ℤ top → from ≡ level → hi ≡ top → (level <ℤ top → spare ≡ 0) → (from ≤ℤ hi) × (0 < max spare 0 → from ≡ hi)
-tight_end lo top level hi from spare le here end left =
-    by_lt_z level top
-    (λ lt. let none = left lt in (omega (arith, ints), λ some. absurd (omega arith)))
-    (λ ge. (omega (arith, ints), λ some. omega (arith, ints)))
-
--- the first cell of a run touches what is before it, or no dual is needed there
-tight_gap : (lo top level next from at : ℤ) (spare needed : ℕ) → lo ≤ℤ level → next ≤ℤ top → level ≤ℤ next → from ≡ level +ℤ at → (level <ℤ top → spare ≡ 0) → (lo <ℤ next → needed ≡ 0) → 0 < max spare needed → from ≡ next +ℤ at
-tight_gap lo top level next from at spare needed low high rising here left none some =
-    by_lt_z level next
-    (λ lt. let a = left (omega (arith, ints)) in let b = none (omega (arith, ints)) in absurd (omega arith))
-    (λ ge. omega (arith, ints))
-
--- the first cell apart from the others of its run
-tight_first : {Cell : Type 0} (width : Cell → ℤ) (rise : Cell → ℤ → ℤ) (run others : List Cell) (xs : List ℤ) (from x to : ℤ) (spare : ℕ) → 0 < length run → from ≤ℤ x → (0 < first_dual rise spare (run ++ others) (packed width x run ++ xs) → from ≡ x) → Tight width rise x to spare (run ++ others) (packed width x run ++ xs) → Tight width rise from to spare (run ++ others) (packed width x run ++ xs)
-tight_first width rise [] others xs from x to spare some le touching h = absurd (omega arith)
-tight_first width rise (c ∷ cs) others xs from x to spare some le touching h = (le, touching, h.2)
-
-pub span-append : (run others : List RowCell) → span width_of (run ++ others) ≡ span width_of run +ℤ span width_of others
-span-append [] others = omega (arith, ints)
-span-append (c ∷ cs) others =
-    let e = span-append cs others in
-    omega (arith, ints)
 
 next_under : (lo top level : ℤ) (ks : List Cluster) → IsUnder level ks → (k : Cluster) (others : List Cluster) → ks ≡ k ∷ others → clamped lo top level ≤ℤ clamped lo top k.level
 next_under lo top level [] under k others e = absurd (cc)
@@ -108,7 +74,7 @@ tight_from lo top le (k ∷ ks) offset level from hi cells spare grows h low hig
     let count = h.0.front.count in
     let some = h.0.front.some in
     let xs = places lo top (offset +ℤ span width_of run) rest ks in
-    let spans = span-append run rest in
+    let spans = span-append width_of run rest in
     let finish : hi ≡ (top +ℤ offset) +ℤ span width_of (run ++ rest) = rw cut at end in
     let spare2 = left_over spare (rises width_of squared_rise (at +ℤ offset) run) in
     let nothing : at <ℤ top → spare2 ≡ 0 =

@@ -8,15 +8,17 @@ use Rattle.std.specs.List.{AllByRecursion}
 use Rattle.fp_rows.specs.declared.RowCell.{RowCell}
 use Rattle.fp_rows.specs.Rows.{FeasibleBy}
 use Rattle.fp_rows.specs.Squares.{IsCell, IsPlace, AreCells, ArePlaces, IsRow, Feasible, AreDuals, width_of, squared_rise, total_width}
+use Rattle.fp_rows.specs.SquaresLaws.{squares_sized}
+use Rattle.fp_rows.specs.Runs.{span}
+use Rattle.fp_rows.specs.LeastDuals.{least_duals}
+use Rattle.fp_rows.specs.TightLaws.{Tight, tight_is_feasible, tight_is_shown}
+use Rattle.fp_rows.specs.RunsLaws.{span_low}
+use Rattle.fp_rows.specs.NeedsLaws.{least_small}
 use Rattle.fp_abacus.specs.declared.stack.Cluster.{Cluster}
-use Rattle.fp_abacus.specs.Clusters.{span}
-use Rattle.fp_abacus.specs.Duals.{least_duals}
 use Rattle.fp_abacus.specs.Stacks.{AreClusters, places}
-use Rattle.fp_abacus.proofs.Tight.{Tight, tight_is_feasible, tight_is_shown}
 use Rattle.fp_abacus.proofs.Places.{clusters_are_tight}
 use Rattle.fp_abacus.proofs.Adding.{all_grow}
-use Rattle.fp_abacus.proofs.Spans.{span_low}
-use Rattle.fp_abacus.proofs.Needs.{least_small}
+use Rattle.fp_abacus.proofs.Rises.{most_of, small_rises}
 
 span-is : (cells : List RowCell) → span width_of cells ≡ total_width cells
 span-is [] = refl
@@ -34,7 +36,7 @@ pub record HasRoom (cells : List RowCell) (lo hi : ℤ) : Type 0 where
 pub has_room : (cells : List RowCell) (lo hi : ℤ) → IsRow cells lo hi → HasRoom cells lo hi
 has_room cells lo hi h =
     let same = span-is cells in
-    record { low = span_low cells (recursion_from_All IsCell cells h.each.each); ordered = omega (arith, ints, h.room) }
+    record { low = span_low width_of cells (squares_sized cells (recursion_from_All IsCell cells h.each.each)); ordered = omega (arith, ints, h.room) }
 
 pub tight_places : (cells : List RowCell) (lo hi : ℤ) (ks : List Cluster) → IsRow cells lo hi → AreClusters (pos 0) cells ks → Tight width_of squared_rise lo hi 0 cells (places lo (hi -ℤ span width_of cells) (pos 0) cells ks)
 tight_places cells lo hi ks h clusters =
@@ -58,8 +60,10 @@ feasible_places cells lo hi xs h f =
 pub placed_is_feasible : (cells : List RowCell) (lo hi : ℤ) (xs : List ℤ) → Tight width_of squared_rise lo hi 0 cells xs → Feasible cells lo hi xs
 placed_is_feasible cells lo hi xs h = tight_is_feasible width_of squared_rise cells xs lo hi 0 h
 
-pub placed_is_shown : (cells : List RowCell) (lo hi : ℤ) (xs : List ℤ) → AreCells cells → Tight width_of squared_rise lo hi 0 cells xs → AreDuals cells lo hi xs (least_duals squared_rise 0 cells xs)
-placed_is_shown cells lo hi xs good h = tight_is_shown width_of squared_rise cells xs lo hi (all_grow cells (recursion_from_All IsCell cells good.each)) h
+pub placed_is_shown : (cells : List RowCell) (lo hi : ℤ) (xs : List ℤ) → AreCells cells → ArePlaces cells xs → Tight width_of squared_rise lo hi 0 cells xs → AreDuals cells lo hi xs (least_duals squared_rise 0 cells xs)
+placed_is_shown cells lo hi xs good places h = tight_is_shown width_of squared_rise most_of cells xs lo hi (small_rises cells xs good places).near h
 
 pub duals_are_small : (cells : List RowCell) (xs : List ℤ) → AreCells cells → ArePlaces cells xs → All (λ dual. dual ≤ 2 ^ 57) (least_duals squared_rise 0 cells xs)
-duals_are_small cells xs good places = All-from_recursion (λ dual. dual ≤ 2 ^ 57) (least_duals squared_rise 0 cells xs) (least_small cells xs 0 (recursion_from_All IsCell cells good.each) (recursion_from_All IsPlace xs places.range) (omega (arith, ints, good.weight)))
+duals_are_small cells xs good places =
+    let small = small_rises cells xs good places in
+    All-from_recursion (λ dual. dual ≤ 2 ^ 57) (least_duals squared_rise 0 cells xs) (least_small squared_rise most_of cells xs 0 small.near (omega (arith, small.few)))

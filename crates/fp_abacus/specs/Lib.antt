@@ -1,3 +1,2 @@
-pub mod Duals
 pub mod Clusters
 pub mod Stacks

@@ -3,8 +3,9 @@ use Rattle.std.specs.Prelude.{◌≡◌, ℕ, ◌^◌, ◌<◌, ℤ, pos, neg_�
 use Rattle.std.specs.Int.{int_max, int_min}
 use Rattle.fp_rows.specs.declared.RowCell.{RowCell}
 use Rattle.fp_rows.specs.Squares.{width_of, squared_rise, total_weight}
+use Rattle.fp_rows.specs.Runs.{rises, total, span, packed}
 use Rattle.fp_abacus.specs.declared.stack.Cluster.{Cluster}
-use Rattle.fp_abacus.specs.Clusters.{IsRunAt, rises, total, span, packed}
+use Rattle.fp_abacus.specs.Clusters.{IsRunAt}
 
 -- what the costs of cells of this weight and moment rise by from a level on, in all
 abbrev pub slope : ℤ → ℤ → ℤ → ℤ

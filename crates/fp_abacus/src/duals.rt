@@ -2,7 +2,7 @@
 
 ghost use Rattle.std.specs.Prelude.{◌≡◌, ◌+◌, ◌^◌, ◌≤ℤ◌, neg_ℤ, pos, length};
 ghost use Rattle.fp_rows.specs.Squares.{AreCells, ArePlaces, IsCell, squared_rise};
-ghost use Rattle.fp_abacus.specs.Duals.{needs, least_duals};
+ghost use Rattle.fp_rows.specs.LeastDuals.{needs, least_duals};
 
 use fp_rows::RowCell;
 

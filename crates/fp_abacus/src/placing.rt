@@ -3,7 +3,7 @@
 ghost use Rattle.std.specs.Prelude.{◌≡◌, ◌+◌, ◌^◌, ◌≤◌, ◌++◌, ◌+ℤ◌, ◌≤ℤ◌, pos, length, take};
 ghost use Rattle.std.specs.List.{AllByRecursion};
 ghost use Rattle.fp_rows.specs.Squares.{AreCells, IsCell, width_of};
-ghost use Rattle.fp_abacus.specs.Clusters.{span, packed};
+ghost use Rattle.fp_rows.specs.Runs.{span, packed};
 ghost use Rattle.fp_abacus.specs.Stacks.{AreClusters, places};
 
 use crate::stack::Cluster;

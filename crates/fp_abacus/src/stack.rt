@@ -2,7 +2,7 @@
 
 ghost use Rattle.std.specs.Prelude.{◌≡◌, ◌+◌, ◌^◌, ◌<◌, ◌≤◌, ◌-ℤ◌, ◌+ℤ◌, ◌*ℤ◌, ◌≤ℤ◌, pos, length, drop};
 ghost use Rattle.fp_rows.specs.Squares.{AreCells, IsCell, width_of};
-ghost use Rattle.fp_abacus.specs.Clusters.{span};
+ghost use Rattle.fp_rows.specs.Runs.{span};
 ghost use Rattle.fp_abacus.specs.Stacks.{IsMoment, IsLevel, IsMade, AreClusters, AreClustersBehind};
 
 use fp_rows::RowCell;

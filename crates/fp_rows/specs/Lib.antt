@@ -6,3 +6,10 @@ pub mod SquaresLaws
 pub mod Ranges
 pub mod Lists
 pub mod Weights
+pub mod SeenLaws
+pub mod Runs
+pub mod LeastDuals
+pub mod SumsLaws
+pub mod RunsLaws
+pub mod TightLaws
+pub mod NeedsLaws

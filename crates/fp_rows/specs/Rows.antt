@@ -19,10 +19,12 @@ abbrev pub IsBestBy : {Cell : Type 0} → (Cell → ℤ) → (Cell → ℤ → �
 IsBestBy width cost from to cells xs =
     FeasibleBy width from to cells xs × ((zs : List ℤ) → FeasibleBy width from to cells zs → total_by cost cells xs ≤ℤ total_by cost cells zs)
 
--- `rise c x` is what the cost of the cell rises by from x to x + 1; it never falls with x
-pub record IsConvex {Cell : Type 0} (cost rise : Cell → ℤ → ℤ) (c : Cell) : Type 0 where
-  pub step : (x : ℤ) → cost c (x +ℤ pos 1) ≡ cost c x +ℤ rise c x
-  pub grows : (x : ℤ) → rise c x ≤ℤ rise c (x +ℤ pos 1)
+-- At the places from low to high, `rise c x` is what the cost of the cell rises by from x to x + 1, and it does not fall with x; the cell is not of
+-- negative width.
+pub record IsConvexOn {Cell : Type 0} (low high : ℤ) (width : Cell → ℤ) (cost rise : Cell → ℤ → ℤ) (c : Cell) : Type 0 where
+  pub wide : pos 0 ≤ℤ width c
+  pub step : (x : ℤ) → low ≤ℤ x → (x +ℤ pos 1) ≤ℤ high → cost c (x +ℤ pos 1) ≡ cost c x +ℤ rise c x
+  pub grows : (x : ℤ) → low ≤ℤ x → (x +ℤ pos 1) ≤ℤ high → rise c x ≤ℤ rise c (x +ℤ pos 1)
 
 -- over a cell the duals fall by no less than its cost's rise up to its position, and by no more than the rise from there
 abbrev pub FallsBy : {Cell : Type 0} → (Cell → ℤ → ℤ) → Cell → ℤ → ℕ → ℕ → Type 0

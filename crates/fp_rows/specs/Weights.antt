@@ -25,11 +25,6 @@ weight_at cells i d h lt = small cells i d (recursion_from_All IsCell cells h.ea
         let one = each.0.weight_from in
         small cs i d each.1 (omega arith) (omega (arith, ints))
 
-pub each_behind : {A : Type 0} (P : A → Type 0) (xs : List A) (i : ℕ) → AllByRecursion P xs → AllByRecursion P (drop i xs)
-each_behind P xs zero h = h
-each_behind P [] (suc i) h = tt
-each_behind P (x ∷ xs) (suc i) h = each_behind P xs i h.1
-
 pub weight_behind : (cells : List RowCell) (i : ℕ) → AllByRecursion IsCell cells → total_weight (drop i cells) ≤ℤ total_weight cells
 weight_behind cells zero h = omega (arith, ints)
 weight_behind [] (suc i) h = omega (arith, ints)

@@ -2,7 +2,7 @@ use Rattle.std.proofs.Common.{◌-ℤ◌, FitsSigned, w64, arith, rules}
 use Rattle.std.proofs.lemmas.Int.{ints, to_z-of_z}
 use Rattle.fp_rows.specs.Squares.{width_of, squared_rise, ArePlaces}
 use Rattle.fp_rows.specs.SquaresLaws.{shown_is_best}
-use Rattle.fp_abacus.proofs.Tight.{Tight}
+use Rattle.fp_rows.specs.TightLaws.{Tight}
 use Rattle.fp_abacus.proofs.Whole.{rest_of, has_room, tight_places, feasible_places, placed_is_feasible, placed_is_shown, duals_are_small}
 use Rattle.fp_abacus.proofs.place_row.Goals as goal
 use Rattle.fp_abacus.proofs.place_row.Goals.{After-place_clusters}
@@ -47,10 +47,12 @@ pub returns-clause-best : goal.returns-clause-best
 returns-clause-best c =
     let t = tight (goal.at.returns-clause-best c).After-place_clusters in
     let xs = c.place_clusters.new.xs in
-    shown_is_best c.args.cells.now c.args.lo c.args.hi xs _ c.requires.row.each (placed_is_feasible c.args.cells.now c.args.lo c.args.hi xs t) (placed_is_shown c.args.cells.now c.args.lo c.args.hi xs c.requires.row.each t)
+    shown_is_best c.args.cells.now c.args.lo c.args.hi xs _ c.requires.row.each (placed_is_feasible c.args.cells.now c.args.lo c.args.hi xs t) (placed_is_shown c.args.cells.now c.args.lo c.args.hi xs c.requires.row.each (places (goal.at.returns-clause-best c).After-place_clusters) t)
 
 pub returns-clause-duals : goal.returns-clause-duals
-returns-clause-duals c = rw c.raise_to_least.ensures (placed_is_shown c.args.cells.now c.args.lo c.args.hi c.place_clusters.new.xs c.requires.row.each (tight (goal.at.returns-clause-duals c).After-place_clusters))
+returns-clause-duals c =
+    let d = (goal.at.returns-clause-duals c).After-place_clusters in
+    rw c.raise_to_least.ensures (placed_is_shown c.args.cells.now c.args.lo c.args.hi c.place_clusters.new.xs c.requires.row.each (places d) (tight d))
 
 pub returns-clause-small : goal.returns-clause-small
 returns-clause-small c = rw c.raise_to_least.ensures (duals_are_small c.args.cells.now c.place_clusters.new.xs c.requires.row.each (places (goal.at.returns-clause-small c).After-place_clusters))

@@ -3,7 +3,8 @@ use Rattle.std.proofs.lemmas.Int.{ints, to_z-of_z}
 use Rattle.fp_rows.specs.declared.RowCell.{RowCell}
 use Rattle.fp_rows.specs.Squares.{squared_rise}
 use Rattle.fp_rows.specs.Weights.{weight_at}
-use Rattle.fp_abacus.proofs.Needs.{one_needed, saturated}
+use Rattle.fp_rows.specs.NeedsLaws.{one_needed, saturated}
+use Rattle.fp_abacus.proofs.Rises.{most_of, small_rises}
 use Rattle.fp_abacus.proofs.duals.set_needs.Goals as goal
 
 abbrev no_cell : RowCell
@@ -15,7 +16,7 @@ rise_at-requires-clause-weight c = weight_at c.args.cells.now (c.loop-i.i - 1) n
 pub loop-i-preserved : goal.loop-i-preserved
 loop-i-preserved c =
     let i = c.loop-i.i - 1 in
-    let one = one_needed c.args.cells.now c.args.xs.now c.loop-i.duals c.loop-i.i no_cell (pos 0) c.requires.cells c.requires.places c.loop-i-test.true (omega arith) c.loop-i.invariant in
+    let one = one_needed squared_rise most_of c.args.cells.now c.args.xs.now c.loop-i.duals c.loop-i.i no_cell (pos 0) (small_rises c.args.cells.now c.args.xs.now c.requires.cells c.requires.places) c.loop-i-test.true (omega arith) c.loop-i.invariant in
     let spot = c.requires.places.range i (pos 0) (omega arith) in
     let x = get_or c.args.xs.now i (pos 0) in
     let a : FitsSigned w64 x = omega (arith, ints, spot.0, spot.1) in

@@ -1,8 +1,8 @@
 use Rattle.std.proofs.Common.{◌≡◌, pos, ◌+ℤ◌, ◌-ℤ◌, FitsSigned, w64, to_z, get_or, arith, rules}
 use Rattle.std.proofs.lemmas.Int.{ints, to_z-of_z}
 use Rattle.fp_rows.specs.Squares.{width_of}
+use Rattle.fp_rows.specs.Runs.{span}
 use Rattle.fp_abacus.specs.declared.stack.Cluster.{Cluster}
-use Rattle.fp_abacus.specs.Clusters.{span}
 use Rattle.fp_abacus.specs.Stacks.{clamped}
 use Rattle.fp_abacus.proofs.Packing.{IsNext, next_cluster, placing_end}
 use Rattle.fp_abacus.proofs.placing.place_clusters.Goals as goal

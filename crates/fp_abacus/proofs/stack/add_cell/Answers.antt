@@ -5,8 +5,8 @@ use Rattle.std.proofs.lemmas.List.Elements.{recursion_from_All}
 use Rattle.std.specs.List.{AllByRecursion}
 use Rattle.fp_rows.specs.declared.RowCell.{RowCell}
 use Rattle.fp_rows.specs.Squares.{IsCell, total_weight}
-use Rattle.fp_rows.specs.Lists.{drop-at}
-use Rattle.fp_rows.specs.Weights.{weight_at, weight_behind, each_behind}
+use Rattle.fp_rows.specs.Lists.{drop-at, each_behind}
+use Rattle.fp_rows.specs.Weights.{weight_at, weight_behind}
 use Rattle.fp_abacus.specs.declared.stack.Cluster.{Cluster}
 use Rattle.fp_abacus.specs.Stacks.{IsFront, IsUnder}
 use Rattle.fp_abacus.proofs.Levels.{moment_of_one}

@@ -1,7 +1,7 @@
 -- Sums of the first and of the last few of a list's numbers.
 use Rattle.std.proofs.Common.{◌≡◌, ℤ, pos, ◌+ℤ◌, ◌≤ℤ◌, List, [], ◌∷◌, ◌++◌, arith}
 use Rattle.std.proofs.lemmas.Int.{ints}
-use Rattle.fp_abacus.specs.Clusters.{total, FirstsAtMostZero, LastsAtLeastZero}
+use Rattle.fp_rows.specs.Runs.{total, FirstsAtMostZero, LastsAtLeastZero}
 
 -- each number is at most the other's
 abbrev pub Below : List ℤ → List ℤ → Type 0
