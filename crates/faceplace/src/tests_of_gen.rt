@@ -1,6 +1,7 @@
 //! Whole runs of `gen` and `demo` over a folder and a sink in memory.
 
-use crate::tests_of_check::{expect_found, run_in};
+use crate::fixtures::run_in;
+use crate::tests_of_check::expect_found;
 use fp_base::{MemFolder, MemSink};
 use std::alloc::Global;
 use std::process::Abort;

@@ -1,8 +1,8 @@
 //! Whole runs of `place` over a folder and a sink in memory.
 
-use crate::tests::{
-    APART, BLOCKED, CONTEST, COSTLY, Changes, EMPTY, Ended, LOOSE, NARROW, ONE_PLACE, PLACED,
-    SMALL, Trial, UNCHANGED, run_line, with_changes,
+use crate::fixtures::{
+    APART, BLOCKED, CONTEST, COSTLY, Changes, EMPTY, LOOSE, NARROW, ONE_PLACE, PLACED, SMALL,
+    Trial, UNCHANGED, run_line, with_changes,
 };
 use std::alloc::Global;
 use std::process::Abort;
@@ -140,45 +140,4 @@ fn places_the_contest_case_no_worse_than_its_first_trial(rt: HostRuntime) -> Res
     assert!(&rt; last_score(report).is_some_and(|score| score <= 74));
     drop(end);
     Ok(())
-}
-
-/// A placement of the small input whose device fails at such calls ends with 6 and prints nothing; its output is whole, and its certificate
-/// is this one, where that is told.
-fn expect_failed<'f>(
-    rt: &impl Abort,
-    alloc: Global,
-    folder_fails: &'f [u64],
-    sink_fails: &'f [u64],
-    cert: Option<&[u8]>,
-) -> Result<(), Fail> {
-    let trial = Trial {
-        line: "place a o c",
-        input: Some(SMALL),
-        output: None,
-        folder_fails,
-        sink_fails,
-    };
-    let end = run_line(alloc, &trial)?;
-    assert!(rt; end.status == 6);
-    assert!(rt; end.out.written().is_empty());
-    assert!(rt; end.folder.file("o") == Some(PLACED.as_bytes()));
-    assert!(rt; cert.is_none() || end.folder.file("c") == cert);
-    drop(end);
-    Ok(())
-}
-
-/// What fails behind a run that was whole: the folder's last call, or the sink's first.
-fn expect_failures(rt: &impl Abort, alloc: Global, whole: &Ended) -> Result<(), Fail> {
-    let last = whole.folder.calls().saturating_sub(1);
-    expect_failed(rt, alloc, &[last], &[], None)?;
-    expect_failed(rt, alloc, &[], &[0], whole.folder.file("c"))
-}
-
-#[test]
-fn a_device_that_fails_last_leaves_what_was_written_before(rt: HostRuntime) -> Result<(), Fail> {
-    let trial = Trial::new("place a o c", Some(SMALL), None);
-    let whole = run_line(rt.alloc(), &trial)?;
-    let done = expect_failures(&rt, rt.alloc(), &whole);
-    drop(whole);
-    done
 }
