@@ -144,16 +144,16 @@ pub(crate) fn push_words(
     Ok(())
 }
 
-/// A run: its command line, what it finds in the files `a`, `o` and `c`, the numbers of the calls that fail, and the greatest number of bytes
-/// that a read gives.
+/// A run: its command line, what it finds in the files `a`, `o` and `c`, the number of the folder's call and of the sink's put that fails, where
+/// one does, and the greatest number of bytes that a read gives.
 #[derive(Clone, Copy)]
 pub(crate) struct Trial<'t> {
     pub(crate) line: &'t str,
     pub(crate) input: Option<&'t str>,
     pub(crate) output: Option<&'t str>,
     pub(crate) cert: Option<&'t str>,
-    pub(crate) folder_fails: &'t [u64],
-    pub(crate) sink_fails: &'t [u64],
+    pub(crate) failing_call: Option<u64>,
+    pub(crate) failing_put: Option<u64>,
     pub(crate) piece: usize,
 }
 
@@ -165,35 +165,9 @@ impl<'t> Trial<'t> {
             input,
             output,
             cert: None,
-            folder_fails: &[],
-            sink_fails: &[],
+            failing_call: None,
+            failing_put: None,
             piece: usize::MAX,
-        }
-    }
-
-    /// This run, where the folder's calls with these numbers fail.
-    pub(crate) fn with_failing_calls(&self, folder_fails: &'t [u64]) -> Trial<'t> {
-        Trial {
-            line: self.line,
-            input: self.input,
-            output: self.output,
-            cert: self.cert,
-            folder_fails,
-            sink_fails: self.sink_fails,
-            piece: self.piece,
-        }
-    }
-
-    /// This run, where the sink's puts with these numbers fail.
-    pub(crate) fn with_failing_puts(&self, sink_fails: &'t [u64]) -> Trial<'t> {
-        Trial {
-            line: self.line,
-            input: self.input,
-            output: self.output,
-            cert: self.cert,
-            folder_fails: self.folder_fails,
-            sink_fails,
-            piece: self.piece,
         }
     }
 }
@@ -208,7 +182,7 @@ pub(crate) struct Ended {
 
 /// The folder that a run finds.
 fn folder_of(alloc: Global, trial: &Trial<'_>) -> Result<MemFolder, Fail> {
-    let mut folder = MemFolder::new(alloc, trial.folder_fails, 3, 2048)?;
+    let mut folder = MemFolder::new(alloc, trial.failing_call.as_slice(), 3, 2048)?;
     if let Some(bytes) = trial.input {
         let _ = folder.put_file("a", bytes.as_bytes());
     }
@@ -224,7 +198,7 @@ fn folder_of(alloc: Global, trial: &Trial<'_>) -> Result<MemFolder, Fail> {
 
 /// A run of these words.
 fn run_words(alloc: Global, words: &[String], trial: &Trial<'_>) -> Result<Ended, Fail> {
-    let mut out = MemSink::new(alloc, trial.sink_fails, 128)?;
+    let mut out = MemSink::new(alloc, trial.failing_put.as_slice(), 128)?;
     match folder_of(alloc, trial) {
         Ok(mut folder) => {
             let status = run(alloc, words, &mut folder, &mut out);

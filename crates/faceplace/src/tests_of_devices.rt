@@ -53,8 +53,9 @@ fn expect_failed_call(
     reads: u64,
     call: u64,
 ) -> Result<(), Fail> {
-    let fails = [call];
-    let end = run_line(alloc, &trial.with_failing_calls(&fails))?;
+    let mut failing = *trial;
+    failing.failing_call = Some(call);
+    let end = run_line(alloc, &failing)?;
     assert!(rt; end.status == 6, "{call}");
     assert!(rt; end.out.calls() == 0, "{call}");
     assert!(rt; call >= reads || are_kept(&end.folder, trial), "{call}");
@@ -85,8 +86,9 @@ fn expect_failed_put(
     whole: &Ended,
     put: u64,
 ) -> Result<(), Fail> {
-    let fails = [put];
-    let end = run_line(alloc, &trial.with_failing_puts(&fails))?;
+    let mut failing = *trial;
+    failing.failing_put = Some(put);
+    let end = run_line(alloc, &failing)?;
     assert!(rt; end.status == 6, "{put}");
     assert!(rt; whole.out.written().starts_with(end.out.written()), "{put}");
     for name in ["a", "o", "c"] {
