@@ -1,0 +1,4 @@
+pub mod ConvexCells
+pub mod Measures
+pub mod Spans
+pub mod Tight
