@@ -1,12 +1,12 @@
 -- Positions that are set span by span.
-use Rattle.std.proofs.Common.{◌≡◌, ℕ, ◌+◌, ◌-◌, ◌<◌, ◌≤◌, max, ℤ, pos, ◌+ℤ◌, ◌-ℤ◌, ◌≤ℤ◌, ◌<ℤ◌, List, [], ◌∷◌, ◌++◌, length, take, drop, arith, ap, sym, ◌∙◌, refl, append_assoc}
+use Rattle.std.proofs.Common.{◌≡◌, ℕ, ◌+◌, ◌<◌, ◌≤◌, ℤ, pos, ◌+ℤ◌, ◌-ℤ◌, ◌≤ℤ◌, ◌<ℤ◌, List, [], ◌∷◌, ◌++◌, length, take, drop, arith, ap, sym, ◌∙◌, refl, append_assoc}
 use Rattle.std.proofs.lemmas.Int.{ints}
 use Rattle.std.proofs.lemmas.List.{length-append, length-drop, append-nil, take_at, take_all}
 use Rattle.std.specs.List.{AllByRecursion}
 use Rattle.fp_rows.specs.Lists.{drop-at, drop-all, drop_run, all_front, all_behind}
-use Rattle.fp_rows.specs.Runs.{FirstsAtMostZero, rises, span, packed}
+use Rattle.fp_rows.specs.Runs.{rises, span, packed}
 use Rattle.fp_rows.specs.RunsLaws.{IsSized, span-append, span_low}
-use Rattle.fp_rows.specs.LeastDuals.{need, first_dual}
+use Rattle.fp_rows.specs.LeastDuals.{need}
 use Rattle.fp_rows.specs.TightLaws.{Tight, tight_end, tight_gap, tight_first, need_before_run, left_over, nothing_left, tight_run}
 use Rattle.fp_absrow.specs.ConvexCells.{ConvexCell, width_of, rise_of}
 use Rattle.fp_absrow.specs.Spans.{some_cells, IsCut, IsBlock, ArePending, parts_of, span_at}

@@ -1,5 +1,5 @@
 -- The two measures of how far cells stand from their targets, as convex cells.
-use Rattle.std.specs.Prelude.{ℕ, ◌^◌, ℤ, pos, negsuc, neg_ℤ, ◌-ℤ◌, ◌*ℤ◌, List, map, unsigned_abs}
+use Rattle.std.specs.Prelude.{◌^◌, ℤ, pos, negsuc, neg_ℤ, ◌-ℤ◌, ◌*ℤ◌, List, map, unsigned_abs}
 use Rattle.fp_rows.specs.declared.RowCell.{RowCell}
 use Rattle.fp_rows.specs.Squares.{squared_cost, squared_rise}
 use Rattle.fp_rows.specs.LeastDuals.{above}

@@ -1,5 +1,5 @@
 -- Spans of a row's cells, one behind the other, each with the levels between which all its cells have a best one.
-use Rattle.std.specs.Prelude.{◌≡◌, ℕ, zero, suc, ◌+◌, ◌-◌, ◌<◌, ◌≤◌, ℤ, pos, ◌+ℤ◌, ◌-ℤ◌, ◌≤ℤ◌, ◌<ℤ◌, List, [], ◌∷◌, ◌++◌, length, take, drop, get_or}
+use Rattle.std.specs.Prelude.{◌≡◌, ℕ, zero, suc, ◌-◌, ◌<◌, ◌≤◌, ℤ, pos, ◌+ℤ◌, ◌-ℤ◌, ◌≤ℤ◌, ◌<ℤ◌, List, [], ◌∷◌, ◌++◌, length, take, drop, get_or}
 use Rattle.fp_rows.specs.Runs.{FirstsAtMostZero, LastsAtLeastZero, rises, span}
 use Rattle.fp_absrow.specs.ConvexCells.{ConvexCell, width_of, rise_of}
 use Rattle.fp_absrow.specs.declared.span.Span.{Span}

@@ -1,4 +1,4 @@
-use Rattle.std.proofs.Common.{◌≡◌, ◌∙◌, ◌^◌, ◌≤◌, pos, FitsSigned, arith, rules, refl}
+use Rattle.std.proofs.Common.{◌≡◌, ◌∙◌, pos, FitsSigned, arith, rules}
 use Rattle.std.proofs.lemmas.Int.{ints, to_z-of_z}
 use Rattle.fp_rows.specs.LeastDuals.{above}
 use Rattle.fp_absrow.proofs.Cells.{raised}

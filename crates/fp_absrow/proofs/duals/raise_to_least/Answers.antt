@@ -1,4 +1,4 @@
-use Rattle.std.proofs.Common.{◌≡◌, ◌+◌, ◌<◌, ◌∙◌, ap, pos, ◌+ℤ◌, ◌-ℤ◌, FitsSigned, w64, length, get_or, arith, rules}
+use Rattle.std.proofs.Common.{◌≡◌, ◌<◌, ◌∙◌, ap, pos, ◌-ℤ◌, FitsSigned, w64, length, get_or, arith, rules}
 use Rattle.std.proofs.lemmas.Int.{ints, to_z-of_z}
 use Rattle.fp_rows.specs.LeastDuals.{above}
 use Rattle.fp_rows.specs.Squares.{IsPlace}

@@ -1,7 +1,6 @@
-use Rattle.std.proofs.Common.{◌≡◌, ◌+◌, ◌<◌, ◌^◌, pos, neg_ℤ, ◌+ℤ◌, ◌≤ℤ◌, ◌<ℤ◌, FitsSigned, w64, to_z, length, arith, ap, sym, ◌∙◌, rules}
+use Rattle.std.proofs.Common.{◌≡◌, ◌+◌, ◌<◌, ◌^◌, pos, neg_ℤ, ◌+ℤ◌, ◌≤ℤ◌, FitsSigned, w64, to_z, length, arith, rules}
 use Rattle.std.proofs.lemmas.Int.{ints, to_z-of_z}
-use Rattle.fp_absrow.specs.ConvexCells.{width_of, no_cell, cell_at}
-use Rattle.fp_rows.specs.Runs.{span}
+use Rattle.fp_absrow.specs.ConvexCells.{cell_at}
 use Rattle.fp_absrow.specs.ConvexCells.{IsTold}
 use Rattle.fp_absrow.specs.Spans.{some_cells}
 use Rattle.fp_absrow.proofs.Cells.{cell_of, rise_range, some_sized}

@@ -1,9 +1,9 @@
-use Rattle.std.proofs.Common.{◌≡◌, ◌+◌, ◌<◌, pos, ◌+ℤ◌, FitsSigned, w64, to_z, length, set, arith, ap, ◌∙◌, rules}
+use Rattle.std.proofs.Common.{◌≡◌, ◌+◌, ◌+ℤ◌, FitsSigned, w64, to_z, set, arith, rules}
 use Rattle.std.proofs.lemmas.Int.{ints, to_z-of_z}
 use Rattle.fp_absrow.specs.ConvexCells.{width_of, no_cell, cell_at}
 use Rattle.fp_rows.specs.RunsLaws.{IsPacking, packing_start, packing_next, packing_most, packing_end}
 use Rattle.fp_absrow.specs.Spans.{some_cells}
-use Rattle.fp_absrow.proofs.Cells.{cell_of, some_sized}
+use Rattle.fp_absrow.proofs.Cells.{some_sized}
 use Rattle.fp_absrow.proofs.Cutting.{some_count, some_at}
 use Rattle.fp_absrow.proofs.placing.pack.Given as given
 use Rattle.fp_absrow.proofs.placing.pack.Goals as goal

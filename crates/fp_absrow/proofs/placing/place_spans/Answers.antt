@@ -1,10 +1,10 @@
-use Rattle.std.proofs.Common.{◌≡◌, ◌+◌, ◌*◌, ◌<◌, ◌≤◌, pos, ◌+ℤ◌, ◌-ℤ◌, ◌≤ℤ◌, ◌<ℤ◌, FitsSigned, w64, to_z, length, drop, arith, ap, refl, rules}
+use Rattle.std.proofs.Common.{◌≡◌, ◌+◌, ◌*◌, ◌<◌, pos, ◌+ℤ◌, ◌-ℤ◌, ◌≤ℤ◌, ◌<ℤ◌, FitsSigned, w64, to_z, length, drop, arith, ap, refl, rules}
 use Rattle.std.proofs.lemmas.Int.{ints, to_z-of_z}
 use Rattle.fp_rows.specs.Lists.{drop-at}
 use Rattle.fp_rows.specs.Runs.{span}
 use Rattle.fp_rows.specs.LeastDuals.{above}
 use Rattle.fp_absrow.specs.ConvexCells.{width_of}
-use Rattle.fp_absrow.specs.Spans.{some_cells, span_at, parts_of, IsCut, CanPart}
+use Rattle.fp_absrow.specs.Spans.{some_cells, span_at, parts_of, IsCut}
 use Rattle.fp_absrow.proofs.Cells.{are_sized}
 use Rattle.fp_absrow.proofs.Cutting.{cut_in}
 use Rattle.fp_absrow.proofs.Pending.{to_do, less_to_do}

@@ -1,4 +1,4 @@
-use Rattle.std.proofs.Common.{◌+◌, ◌<◌, pos, ◌+ℤ◌, FitsSigned, w64, to_z, length, arith}
+use Rattle.std.proofs.Common.{◌+◌, ◌<◌, ◌+ℤ◌, FitsSigned, w64, to_z, length, arith}
 use Rattle.std.proofs.lemmas.Int.{ints, to_z-of_z}
 use Rattle.fp_absrow.specs.ConvexCells.{width_of, no_cell, cell_at}
 use Rattle.fp_rows.specs.RunsLaws.{IsWide, wide_start, wide_next, wide_most, wide_end}

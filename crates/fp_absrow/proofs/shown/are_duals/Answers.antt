@@ -1,4 +1,4 @@
-use Rattle.std.proofs.Common.{◌≡◌, ◌+◌, ◌<◌, pos, ◌+ℤ◌, FitsSigned, w64, length, get_or, arith, rules}
+use Rattle.std.proofs.Common.{◌<◌, pos, ◌+ℤ◌, FitsSigned, w64, length, get_or, arith, rules}
 use Rattle.std.proofs.lemmas.Int.{ints, to_z-of_z}
 use Rattle.fp_rows.specs.SeenLaws.{IsShownFrom, sight, shown_next, shown_end, shown_are_duals}
 use Rattle.fp_absrow.specs.ConvexCells.{width_of, rise_of, no_cell, cell_at}

@@ -1,6 +1,6 @@
-use Rattle.std.proofs.Common.{◌≡◌, ◌<◌, pos, ◌+ℤ◌, ◌<ℤ◌, FitsSigned, w64, length, get_or, arith, rules}
+use Rattle.std.proofs.Common.{pos, ◌+ℤ◌, ◌<ℤ◌, FitsSigned, w64, get_or, arith, rules}
 use Rattle.std.proofs.lemmas.Int.{ints, to_z-of_z}
-use Rattle.fp_rows.specs.SeenLaws.{too_early, from_next, from_end}
+use Rattle.fp_rows.specs.SeenLaws.{too_early, from_next}
 use Rattle.fp_absrow.specs.ConvexCells.{width_of, no_cell, cell_at}
 use Rattle.fp_absrow.proofs.Cells.{cell_of}
 use Rattle.fp_absrow.proofs.shown.is_feasible.Goals as goal

@@ -1,4 +1,4 @@
-use Rattle.std.proofs.Common.{length, arith}
+use Rattle.std.proofs.Common.{arith}
 use Rattle.fp_absrow.proofs.Measures.{few, squared_are_convex}
 use Rattle.fp_absrow.proofs.squared.SquaredRowCost.cells.Goals as goal
 

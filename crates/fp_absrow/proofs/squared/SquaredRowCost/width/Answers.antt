@@ -1,4 +1,4 @@
-use Rattle.std.proofs.Common.{pos, FitsSigned, w64, get_or, arith, refl}
+use Rattle.std.proofs.Common.{pos, FitsSigned, w64, get_or, arith}
 use Rattle.std.proofs.lemmas.Int.{ints, to_z-of_z}
 use Rattle.fp_rows.specs.declared.RowCell.{RowCell}
 use Rattle.fp_absrow.specs.Measures.{squared_cell}
