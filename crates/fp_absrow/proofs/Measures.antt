@@ -1,6 +1,6 @@
 -- Both measures are convex.
-use Rattle.std.proofs.Common.{◌≡◌, ℕ, zero, suc, ◌*◌, ◌^◌, ◌<◌, ◌≤◌, ℤ, pos, negsuc, neg_ℤ, ◌+ℤ◌, ◌-ℤ◌, ◌*ℤ◌, ◌≤ℤ◌, ◌<ℤ◌, FitsSigned, lit<, List, [], ◌∷◌, map, length, get_or, unsigned_abs, arith, ap, refl}
-use Rattle.std.proofs.lemmas.Int.{ints}
+use Rattle.std.proofs.Common.{◌≡◌, ℕ, zero, suc, ◌*◌, ◌^◌, ◌<◌, ◌≤◌, ℤ, pos, negsuc, neg_ℤ, ◌+ℤ◌, ◌-ℤ◌, ◌*ℤ◌, ◌≤ℤ◌, ◌<ℤ◌, FitsSigned, w64, to_z, of_z, lit<, List, [], ◌∷◌, map, length, get_or, unsigned_abs, arith, ap, refl}
+use Rattle.std.proofs.lemmas.Int.{ints, to_z-of_z}
 use Rattle.std.proofs.lemmas.List.{length-map}
 use Rattle.std.proofs.lemmas.List.Elements.{recursion_from_All, All-from_recursion}
 use Rattle.std.specs.List.{AllByRecursion}
@@ -291,3 +291,29 @@ heaviest_is w some =
 pub distance_range : (d : ℤ) → neg_ℤ (pos (2 ^ 34)) ≤ℤ d → d ≤ℤ pos (2 ^ 34) → (neg_ℤ (pos (2 ^ 35)) ≤ℤ pos (unsigned_abs d)) × (pos (unsigned_abs d) ≤ℤ pos (2 ^ 35))
 distance_range (pos n) low high = (omega (arith, ints), omega (arith, ints))
 distance_range (negsuc n) low high = (omega (arith, ints), omega (arith, ints))
+
+-- a cell's weight and its distance from a position, as the code computes them
+pub record IsApart (c : RowCell) (x weight distance : ℤ) : Type 0 where
+  pub weight_is : weight ≡ c.weight
+  pub distance_is : distance ≡ x -ℤ c.target
+  pub some : pos 1 ≤ℤ weight
+  pub light : weight ≤ℤ pos (2 ^ 22)
+  pub low : neg_ℤ (pos (2 ^ 34)) <ℤ distance
+  pub high : distance <ℤ pos (2 ^ 34)
+
+pub apart : (c : RowCell) (x weight distance : ℤ) → IsCell c → c.weight ≤ℤ pos (2 ^ 22) → IsTold x → weight ≡ to_z w64 (of_z w64 c.weight) → distance ≡ to_z w64 (of_z w64 (to_z w64 (of_z w64 x) -ℤ to_z w64 (of_z w64 c.target))) → IsApart c x weight distance
+apart c x weight distance h light told w d =
+    let a : FitsSigned w64 c.weight = omega (arith, ints, h.weight_from) in
+    let b : FitsSigned w64 x = omega (arith, ints, told.0, told.1) in
+    let e : FitsSigned w64 c.target = omega (arith, ints, h.target_from, h.target_to) in
+    let f : FitsSigned w64 (x -ℤ c.target) = omega (arith, ints, told.0, told.1, h.target_from, h.target_to) in
+    let weight_is : weight ≡ c.weight = simp to_z-of_z at w in
+    let distance_is : distance ≡ x -ℤ c.target = simp to_z-of_z at d in
+    record {
+      weight_is = weight_is;
+      distance_is = distance_is;
+      some = omega (arith, ints, h.weight_from);
+      light = omega (arith, ints);
+      low = omega (arith, ints, told.0, h.target_to);
+      high = omega (arith, ints, told.1, h.target_from);
+    }
