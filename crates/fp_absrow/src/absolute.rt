@@ -32,8 +32,8 @@ impl<'a> Absolute<'a> {
     pub fn new(cells: &'a [RowCell]) -> Absolute<'a>
         requires { AreCells cells.now }
         ensures cells { result ≡ cells.now }
-        ensures count { length (absolute_cells cells.now) ≡ length cells.now }
-        ensures row { (lo hi : ℤ) → IsRow cells.now lo hi → HasRoom (absolute_cells cells.now) lo hi }
+        ensures count { length (absolute_cells result) ≡ length cells.now }
+        ensures row { (lo hi : ℤ) → IsRow cells.now lo hi → HasRoom (absolute_cells result) lo hi }
     {
         Absolute { cells }
     }

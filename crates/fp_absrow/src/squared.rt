@@ -36,12 +36,12 @@ impl<'a> Squared<'a> {
     pub fn new(cells: &'a [RowCell]) -> Squared<'a>
         requires { AreCells cells.now }
         ensures cells { result ≡ cells.now }
-        ensures count { length (squared_cells cells.now) ≡ length cells.now }
-        ensures row { (lo hi : ℤ) → IsRow cells.now lo hi → HasRoom (squared_cells cells.now) lo hi }
+        ensures count { length (squared_cells result) ≡ length cells.now }
+        ensures row { (lo hi : ℤ) → IsRow cells.now lo hi → HasRoom (squared_cells result) lo hi }
         ensures best { (lo hi : ℤ) (xs : List ℤ)
-            → ConvexBest (squared_cells cells.now) lo hi xs ↔ IsBest cells.now lo hi xs }
+            → ConvexBest (squared_cells result) lo hi xs ↔ IsBest cells.now lo hi xs }
         ensures duals { (lo hi : ℤ) (xs : List ℤ) (duals : List ℕ)
-            → ConvexDuals (squared_cells cells.now) lo hi xs duals ↔ AreDuals cells.now lo hi xs duals }
+            → ConvexDuals (squared_cells result) lo hi xs duals ↔ AreDuals cells.now lo hi xs duals }
     {
         Squared { cells }
     }
